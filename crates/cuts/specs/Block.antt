@@ -1,0 +1,83 @@
+-- What a block of rows costs in bytes: "15, plus name lengths, plus one a column, plus values, plus rows times columns".
+-- A set of elements is a number whose bit e stands for element number e + 1.
+use mathlib.Core.List.{List, [], _∷_}
+use Prim.Native.Nat.{ℕ, zero, suc, _+_, _*_, _/_, _%_}
+use lib.Bits.{bitOr}
+use lib.Count.{ones}
+use lib.ListN.{length}
+
+-- How many elements there are.
+abbrev pub elements : ℕ
+elements = 29
+
+-- The most rows that are cut.
+abbrev pub rowLimit : ℕ
+rowLimit = 1024
+
+-- The most bytes that their values have together.
+abbrev pub textLimit : ℕ
+textLimit = 65536
+
+-- A row: the set of its present elements, the bytes of its values, and how many rows of the report it stands for: 1, or more for a
+-- run of rows with one set.
+pub record Row : Type 0 where
+  pub set : ℕ
+  pub size : ℕ
+  pub count : ℕ
+
+-- The row with this set, this size and this count.
+abbrev pub row : ℕ → ℕ → ℕ → Row
+row set size count = record { set = set; size = size; count = count }
+
+-- The rows with these sets and these bytes of values.
+abbrev pub rowsOf : List ℕ → List ℕ → List Row
+rowsOf [] sizes = []
+rowsOf (set ∷ sets) [] = []
+rowsOf (set ∷ sets) (size ∷ sizes) = row set size 1 ∷ rowsOf sets sizes
+
+-- The numbers together.
+unfoldable pub total : List ℕ → ℕ
+total [] = 0
+total (n ∷ ns) = n + total ns
+
+-- "Columns of a block are exactly the elements present in some row of it": those of the rows, and of the set that is given.
+unfoldable pub union : ℕ → List Row → ℕ
+union set [] = set
+union set (r ∷ rows) = union (bitOr set (r .set)) rows
+
+-- The bytes of the rows' values.
+unfoldable pub valueBytes : List Row → ℕ
+valueBytes [] = 0
+valueBytes (r ∷ rows) = r .size + valueBytes rows
+
+-- How many rows of the report they are.
+unfoldable pub rowCount : List Row → ℕ
+rowCount [] = 0
+rowCount (r ∷ rows) = r .count + rowCount rows
+
+-- The lengths of the elements' names, in element order.
+unfoldable pub nameLengths : List ℕ
+nameLengths =
+    6 ∷ 6 ∷ 6 ∷ 6 ∷ 5 ∷ 8 ∷ 4 ∷ 3 ∷ 3 ∷ 3 ∷ 4 ∷ 4 ∷ 4 ∷ 4 ∷ 7 ∷ 7 ∷ 2 ∷ 3 ∷ 5 ∷ 6 ∷ 7 ∷ 6 ∷ 3 ∷ 6 ∷ 4 ∷ 7 ∷ 6 ∷ 5 ∷ 7 ∷ []
+
+-- A length where the bit is set, else 0.
+abbrev pub lengthIf : ℕ → ℕ → ℕ
+lengthIf zero length = 0
+lengthIf (suc bit) length = length
+
+-- The bytes of the names of a set's elements, from the lengths of the names from the set's lowest bit on.
+unfoldable pub nameBytes : List ℕ → ℕ → ℕ
+nameBytes [] set = 0
+nameBytes (length ∷ lengths) set = lengthIf (set % 2) length + nameBytes lengths (set / 2)
+
+-- The bytes of a block with these columns, these bytes of values and so many rows. "The number of columns is the count of ones in that set."
+unfoldable pub bytesOf : ℕ → ℕ → ℕ → ℕ
+bytesOf columns values rows = 15 + nameBytes nameLengths columns + ones columns + values + rows * ones columns
+
+-- The bytes of a block of these rows.
+unfoldable pub blockBytes : List Row → ℕ
+blockBytes rows = bytesOf (union 0 rows) (valueBytes rows) (rowCount rows)
+
+-- All rows after x may stand in its block.
+abbrev pub allMore : Row → List Row → ℕ
+allMore x xs = length xs

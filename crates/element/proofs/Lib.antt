@@ -1,0 +1,5 @@
+pub mod Forms
+pub mod Names
+pub mod Observations
+pub mod Sets
+pub mod Sums

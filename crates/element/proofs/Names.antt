@@ -1,0 +1,97 @@
+-- Laws of the names of elements: where each lies among all of them, that its index is its place, and what bytes it has.
+use Prim.Native.Nat.{ℕ, suc, _+_, _-_, _≤_, _<_}
+use mathlib.Core.Path.{_≡_, refl, sym}
+use mathlib.Core.Bool.{Bool, true, false, not, _&&_}
+use mathlib.Core.List.{List, [], _∷_}
+use native.Mathlib.Numerals.{add-one}
+use lib.Dec.{T, eqb, leb, ltb, eqb→eq, leb→le}
+use lib.ListN.{length, getD, take, drop}
+use lib.Seq.{drop-cons}
+use borrow.Author.Tests.{ltb-true, eqb-false}
+use Rattle.text.specs.Part.{same}
+use Rattle.text.proofs.Bools.{T-true}
+use Rattle.text.proofs.Parts.{same-is}
+use Rattle.text.proofs.Table.{passes, below}
+use Rattle.element.specs.Names.{allNames}
+use Rattle.element.specs.Table.{elements, names, nameOf, indexIn, indexOf}
+
+-- Where each name starts among all of them, and where the last one ends.
+abbrev pub starts : List ℕ
+starts = 0 ∷ 6 ∷ 12 ∷ 18 ∷ 24 ∷ 29 ∷ 37 ∷ 41 ∷ 44 ∷ 47 ∷ 50 ∷ 54 ∷ 58 ∷ 62 ∷ 66 ∷ 73 ∷ 80 ∷ 82 ∷ 85 ∷ 90 ∷ 96 ∷ 103 ∷ 109 ∷ 112 ∷ 118 ∷ 122 ∷ 129 ∷ 135 ∷ 140 ∷ 147 ∷ []
+
+-- The part of all names from where a name starts to where the next one does.
+abbrev pub cut : ℕ → List ℕ
+cut index = take (getD starts (index + 1) 0 - getD starts index 0) (drop (getD starts index 0) allNames)
+
+cut-test : ℕ → Bool
+cut-test index = same (cut index) (nameOf index)
+
+size-test : ℕ → Bool
+size-test index = eqb (getD starts (index + 1) 0 - getD starts index 0) (length (nameOf index))
+
+order-test : ℕ → Bool
+order-test index = leb (getD starts index 0) (getD starts (index + 1) 0)
+
+-- The part is the name, it is as long as the name, and the starts are in order.
+module _ (index : ℕ) (h : index < elements) where
+  pub cut-is : cut index ≡ nameOf index
+  unfolding cut-test same
+  cut-is = same-is _ _ (T-true _ (below cut-test elements tt index h))
+
+  pub size-is : getD starts (index + 1) 0 - getD starts index 0 ≡ length (nameOf index)
+  unfolding size-test
+  size-is = eqb→eq _ _ (below size-test elements tt index h)
+
+  pub in-order : getD starts index 0 ≤ getD starts (index + 1) 0
+  unfolding order-test
+  in-order = leb→le _ _ (below order-test elements tt index h)
+
+-- One name more in a search, and its end.
+module _ (all : List (List ℕ)) (name : List ℕ) (i : ℕ) (h : i < length all) where
+  pub index-yes : same name (getD all i []) ≡ true → indexIn (drop i all) name ≡ 0
+  unfolding indexIn
+  index-yes e = rw (drop-cons all i [] h, e)
+
+  pub index-no : same name (getD all i []) ≡ false → indexIn (drop i all) name ≡ suc (indexIn (drop (i + 1) all) name)
+  unfolding indexIn
+  index-no e = rw (drop-cons all i [] h, e, add-one)
+
+pub index-end : (name : List ℕ) (i : ℕ) → i ≡ elements → indexIn (drop i names) name ≡ 0
+unfolding indexIn
+index-end name i e = rw e
+
+index-test : ℕ → Bool
+index-test index = eqb (indexOf (nameOf index)) index
+
+-- The index of each name is its place.
+pub index-name : (index : ℕ) → index < elements → indexOf (nameOf index) ≡ index
+unfolding index-test indexOf indexIn same
+index-name index h = eqb→eq _ _ (below index-test elements tt index h)
+
+-- What a test finds of every name holds of each.
+pub every-name : (test : List ℕ → Bool) → T (passes (λ index. test (nameOf index)) elements) → (index : ℕ) → index < elements → test (nameOf index) ≡ true
+every-name test t index h = T-true _ (below (λ index. test (nameOf index)) elements t index h)
+
+-- Every byte of a text passes a test.
+abbrev pub every : (ℕ → Bool) → List ℕ → Bool
+every test [] = true
+every test (byte ∷ text) = test byte && every test text
+
+-- A byte from 0x21 to 0x7E that is no `|`.
+abbrev pub isNameByte : ℕ → Bool
+isNameByte byte = leb 33 byte && leb byte 126 && not (eqb byte 124)
+
+unless : (t : Bool) → not t ≡ true → t ≡ false
+unless true e = sym e
+unless false e = refl
+
+-- No name is empty, begins with `#`, or holds a blank, a `|` or a byte outside 0x20 to 0x7E.
+module _ (index : ℕ) (h : index < elements) where
+  pub name-present : 0 < length (nameOf index)
+  name-present = ltb-true 0 _ (every-name (λ name. ltb 0 (length name)) tt index h)
+
+  pub name-unhashed : getD (nameOf index) 0 0 ≡ 35 → ⊥
+  name-unhashed = eqb-false _ 35 (unless _ (every-name (λ name. not (eqb (getD name 0 0) 35)) tt index h))
+
+  pub name-bytes : every isNameByte (nameOf index) ≡ true
+  name-bytes = every-name (every isNameByte) tt index h

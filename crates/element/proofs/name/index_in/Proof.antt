@@ -1,0 +1,75 @@
+-- `element::name::index_in` meets its contract. The invariant: the names passed, and the place among those left, make the index.
+use Prim.Native.Nat.{_+_, _-_, _≤_, zero-le}
+use borrow.Author.Needs.{needs}
+use lib.ListN.{drop, getD}
+use mathlib.Core.Bool.{false, true}
+use mathlib.Core.List.{[]}
+use mathlib.Core.Path.{_∙_, _≡_, sym}
+use native.Mathlib.Omega.{arith}
+use Rattle.element.proofs.Names.{index-end, index-no, index-yes}
+use Rattle.element.proofs.name.index_in.Statement.{statement}
+use Rattle.element.specs.Table.{indexIn, indexOf, names}
+use Rattle.text.specs.Part.{same}
+use Rattle.element.proofs.name.index_in.Tie as tie
+
+abbrev Inv-loop : tie.InvT-loop
+Inv-loop all name i₀ i = (i ≤ 29) × (indexOf name ≡ i + indexIn (drop i names) name)
+
+abbrev μ-loop : tie.MeasureT-loop
+μ-loop all name i₀ i = 29 - i
+
+loop-holds : tie.Need-loop-holds Inv-loop μ-loop
+unfolding indexOf
+loop-holds c = (zero-le, omega arith)
+
+name-in-requires : tie.Need-name-in-requires Inv-loop μ-loop
+name-in-requires c κs = search needs
+
+same-requires : tie.Need-same-requires Inv-loop μ-loop
+same-requires c κs = search needs
+
+returns : tie.Need-returns Inv-loop μ-loop
+returns c =
+    let args = c .before .before .before .before .before .before .before .args in
+    let loop = c .before .before .before .before .loop in
+    let name-in = c .before .before .name-in in
+    let loop-test = c .before .before .before .loop-test in
+    let e : same (args .name .now) (getD names (loop .i) []) ≡ true = rw (name-in .ensures) at (sym (c .before .same .ensures) ∙ c .if1 .taken) in
+    omega (arith, index-yes names (args .name .now) (loop .i) (loop-test .taken) e)
+
+add-i : tie.Need-add-i Inv-loop μ-loop
+add-i c = search needs
+
+loop-less : tie.Need-loop-less Inv-loop μ-loop
+loop-less c = search needs
+
+loop-again : tie.Need-loop-again Inv-loop μ-loop
+loop-again c =
+    let args = c .before .before .before .before .before .before .before .args in
+    let loop = c .before .before .before .before .loop in
+    let name-in = c .before .before .name-in in
+    let loop-test = c .before .before .before .loop-test in
+    let e : same (args .name .now) (getD names (loop .i) []) ≡ false = rw (name-in .ensures) at (sym (c .before .same .ensures) ∙ c .if1 .left) in
+    (omega arith, omega (arith, index-no names (args .name .now) (loop .i) (loop-test .taken) e))
+
+returns-2 : tie.Need-returns-2 Inv-loop μ-loop
+returns-2 c =
+    let loop = c .before .loop in
+    let args = c .before .before .before .before .args in
+    let e : loop .i ≡ 29 = omega arith in
+    omega (arith, index-end (args .name .now) (loop .i) e)
+
+pub index-in-spec : {M : Type 1} → statement M
+index-in-spec =
+    tie.close
+    (tie.spec
+    Inv-loop
+    μ-loop
+    loop-holds
+    name-in-requires
+    same-requires
+    returns
+    add-i
+    loop-less
+    loop-again
+    returns-2)

@@ -1,0 +1,5 @@
+pub mod Form
+pub mod Names
+pub mod Observation
+pub mod Sums
+pub mod Table

@@ -1,0 +1,4 @@
+pub mod ColumnLaws
+pub mod RowLaws
+pub mod LineSteps
+pub mod ReaderLaws

@@ -1,0 +1,215 @@
+-- What the reader's private functions promise each other. A reviewer of the report's rules can skip this file.
+use Prim.Native.Nat.{ℕ, suc, _+_, _-_, _*_, _^_, _≤_, _<_}
+use mathlib.Core.Path.{_≡_}
+use mathlib.Core.List.{List, []}
+use mathlib.Core.Bool.{Bool, cond, _&&_}
+use lib.Bits.{bitOr}
+use lib.Dec.{eqb, leb, ltb}
+use lib.ListN.{length, take, drop, getD, set}
+use Rattle.text.specs.Bytes.{bytes}
+use Rattle.text.specs.Part.{same}
+use Rattle.text.specs.Lines.{fields}
+use Rattle.refusal.specs.declared.Kind.{Kind}
+use Rattle.refusal.specs.declared.Kind.the-variants.{BlockUnfinished}
+use Rattle.refusal.specs.declared.Fault.{Fault}
+use Rattle.refusal.specs.declared.Fault.the-variants.{Sound, At}
+use Rattle.element.specs.Table.{elements}
+use Rattle.element.specs.Observation.{Observation, isPresent, setOf, isWgs84, isEarth, setFault}
+use Rattle.report.specs.Report.{State, Step, next, row, bad, columnsFrom, fieldFault, rowOf, dataLine, other, step, rowLimit}
+use Rattle.report.specs.Places.{startsOf}
+use Rattle.report.specs.Index.{Index, Shows, Noted}
+use Rattle.report.specs.declared.answer.Checked.{Checked}
+use Rattle.report.specs.declared.answer.Checked.the-variants as Checked
+use Rattle.report.specs.declared.row.Marks.{Marks}
+use Rattle.report.specs.declared.row.Fields.{Fields}
+use Rattle.report.specs.declared.row.Fields.the-variants as Fields
+use Rattle.report.specs.declared.state.Need.{Need}
+use Rattle.report.specs.declared.state.Need.the-variants as Need
+use Rattle.report.specs.declared.state.State.{State as CodeState}
+use Rattle.report.specs.declared.state.Taken.{Taken}
+use Rattle.report.specs.declared.state.Taken.the-variants as Taken
+
+-- The bytes of a text between two places.
+abbrev pub between : List ℕ → ℕ → ℕ → List ℕ
+between t from till = take (till - from) (drop from t)
+
+-- The reader's state as the definition has it: the columns are the first of the list.
+abbrev pub stateOf : CodeState → List ℕ → State
+stateOf s columns = record { need = s .need; columns = take (s .columns) columns }
+
+-- The columns of a state are elements.
+pub record Known (s : CodeState) (columns : List ℕ) : Type 0 where
+  pub few : s .columns ≤ elements
+  pub known : (j : ℕ) → j < s .columns → getD columns j 0 < elements
+
+-- ---- the column line
+
+-- The columns are named: the state after the line.
+pub record NamedAs (l columns : List ℕ) (s : CodeState) : Type 0 where
+  pub is : columnsFrom [] (fields l) ≡ next (stateOf s columns)
+  pub known : Known s columns
+
+abbrev pub NamedCase : List ℕ → List ℕ → Taken → Type 0
+NamedCase l columns (Taken.Next s) = NamedAs l columns s
+NamedCase l columns Taken.Noted = ⊥
+NamedCase l columns (Taken.Refused kind p) = columnsFrom [] (fields l) ≡ bad kind p
+
+pub record NamedIs (l columns : List ℕ) (r : Taken) : Type 0 where
+  pub case : NamedCase l columns r
+
+-- ---- the fields of a data line
+
+-- What an observation's marks are.
+abbrev pub marksOf : Observation → Marks
+marksOf o = record { present = setOf o; wgs84 = isWgs84 o; earth = isEarth o }
+
+-- The marks with one value more.
+unfoldable pub markOn : Marks → ℕ → List ℕ → Marks
+markOn m e v =
+    cond (isPresent v)
+    (record {
+      present = bitOr (m .present) (2 ^ e);
+      wgs84 = cond (eqb e 8) (same v (bytes "WGS84")) (m .wgs84);
+      earth = cond (eqb e 9) (same v (bytes "399")) (m .earth);
+    })
+    m
+
+-- What a fault makes of an observation that is noted.
+abbrev pub takenBy : Fault → Taken
+takenBy Sound = Taken.Noted
+takenBy (At kind p) = Taken.Refused kind p
+
+-- What marks come to: an observation, unless it lacks what it must hold.
+unfoldable pub heldBy : Marks → Taken
+heldBy m = takenBy (setFault (m .present) (m .wgs84) (m .earth))
+
+-- Outside a row's entries from base on nothing changed.
+abbrev pub Kept : List ℕ → List ℕ → ℕ → Type 0
+Kept old now base =
+    ((j : ℕ) → j < base → getD now j 0 ≡ getD old j 0) × ((j : ℕ) → base + elements ≤ j → getD now j 0 ≡ getD old j 0)
+
+pub record FieldsAsk (t columns starts lengths : List ℕ) (from till base : ℕ) : Type 0 where
+  pub order : from ≤ till
+  pub inText : till < length t
+  pub short : till < 65536
+  pub starts-room : base + elements ≤ length starts
+  pub lengths-room : base + elements ≤ length lengths
+  pub few : length columns ≤ elements
+  pub known : (k : ℕ) → k < length columns → getD columns k 0 < elements
+
+pub record FieldsGood (t columns starts lengths starts′ lengths′ : List ℕ) (from till base : ℕ) (m : Marks) : Type 0 where
+  pub sound : fieldFault 1 columns (fields (between t from till)) ≡ Sound
+  pub marks : m ≡ marksOf (rowOf columns (fields (between t from till)))
+  pub shows : Shows t starts′ lengths′ base (rowOf columns (fields (between t from till))) (startsOf columns (fields (between t from till)) from)
+  pub starts-kept : Kept starts starts′ base
+  pub lengths-kept : Kept lengths lengths′ base
+
+abbrev pub FieldsCase : List ℕ → List ℕ → List ℕ → List ℕ → List ℕ → List ℕ → ℕ → ℕ → ℕ → Fields → Type 0
+FieldsCase t columns starts lengths starts′ lengths′ from till base (Fields.Good m) =
+    FieldsGood t columns starts lengths starts′ lengths′ from till base m
+FieldsCase t columns starts lengths starts′ lengths′ from till base (Fields.Wrong k p) =
+    fieldFault 1 columns (fields (between t from till)) ≡ At k p
+
+pub record FieldsAre (t columns starts lengths starts′ lengths′ : List ℕ) (from till base : ℕ) (r : Fields) : Type 0 where
+  pub case : FieldsCase t columns starts lengths starts′ lengths′ from till base r
+
+-- ---- a data line
+
+-- The index has a row at the slot.
+pub record Room (x : Index) (slot : ℕ) : Type 0 where
+  pub sets-room : slot < length (x .sets)
+  pub starts-room : slot * elements + elements ≤ length (x .starts)
+  pub lengths-room : slot * elements + elements ≤ length (x .lengths)
+
+pub record RowAsks (t columns : List ℕ) (x : Index) (from till parts slot : ℕ) : Type 0 where
+  pub order : from ≤ till
+  pub inText : till < length t
+  pub short : till < 65536
+  pub parts-are : parts ≡ length (fields (between t from till))
+  pub room : Room x slot
+  pub few : length columns ≤ elements
+  pub known : (k : ℕ) → k < length columns → getD columns k 0 < elements
+
+-- Outside row slot nothing of the index changed.
+pub record KeptBut (x y : Index) (slot : ℕ) : Type 0 where
+  pub sets-kept : (i : ℕ) → (i ≡ slot → ⊥) → getD (y .sets) i 0 ≡ getD (x .sets) i 0
+  pub starts-kept : Kept (x .starts) (y .starts) (slot * elements)
+  pub lengths-kept : Kept (x .lengths) (y .lengths) (slot * elements)
+
+-- The data line is an observation, noted at the slot.
+pub record RowGood (t columns : List ℕ) (x y : Index) (from till slot k : ℕ) : Type 0 where
+  pub got : Observation
+  pub is : dataLine columns k (between t from till) ≡ row got
+  pub few : k < rowLimit
+  pub noted : Noted t y slot got (startsOf columns (fields (between t from till)) from)
+  pub kept : KeptBut x y slot
+
+abbrev pub RowCase : List ℕ → List ℕ → Index → Index → ℕ → ℕ → ℕ → ℕ → Taken → Type 0
+RowCase t columns x y from till slot k (Taken.Next s) = ⊥
+RowCase t columns x y from till slot k Taken.Noted = RowGood t columns x y from till slot k
+RowCase t columns x y from till slot k (Taken.Refused kind p) = dataLine columns k (between t from till) ≡ bad kind p
+
+pub record RowIs (t columns : List ℕ) (x y : Index) (from till slot k : ℕ) (r : Taken) : Type 0 where
+  pub case : RowCase t columns x y from till slot k r
+
+-- ---- a line
+
+-- The line between two places, in the reader's state.
+abbrev pub stepAt : List ℕ → ℕ → ℕ → CodeState → List ℕ → ℕ → Step
+stepAt t from till s columns k = step (stateOf s columns) k (between t from till)
+
+-- The same of a line that does not begin with `#`.
+abbrev pub otherAt : List ℕ → ℕ → ℕ → CodeState → List ℕ → ℕ → Step
+otherAt t from till s columns k = other (s .need) (take (s .columns) columns) k (between t from till)
+
+-- A right version line.
+abbrev pub openedTo : Need → Taken
+openedTo Need.Version = Taken.Next (record { need = Need.Columns; columns = 0 })
+openedTo Need.Columns = Taken.Refused BlockUnfinished 0
+openedTo Need.Row = Taken.Refused BlockUnfinished 0
+openedTo Need.Nothing = Taken.Next (record { need = Need.Columns; columns = 0 })
+
+-- The line is a version line or a column line: the state after it; the index is as it was.
+pub record NextIs (columns : List ℕ) (x y : Index) (taken : Step) (s : CodeState) : Type 0 where
+  pub is : taken ≡ next (stateOf s columns)
+  pub known : Known s columns
+  pub same : y ≡ x
+
+-- The line is an observation, noted at the slot; the columns are as they were.
+pub record RowTaken (t columns columns′ : List ℕ) (x y : Index) (from till slot k : ℕ) (s : CodeState) (taken : Step) : Type 0 where
+  pub got : Observation
+  pub is : taken ≡ row got
+  pub few : k < rowLimit
+  pub noted : Noted t y slot got (startsOf (take (s .columns) columns) (fields (between t from till)) from)
+  pub kept : KeptBut x y slot
+  pub same : columns′ ≡ columns
+
+abbrev pub LineCase : List ℕ → List ℕ → List ℕ → Index → Index → ℕ → ℕ → ℕ → ℕ → CodeState → Step → Taken → Type 0
+LineCase t columns columns′ x y from till slot k old taken (Taken.Next s) = NextIs columns′ x y taken s
+LineCase t columns columns′ x y from till slot k old taken Taken.Noted = RowTaken t columns columns′ x y from till slot k old taken
+LineCase t columns columns′ x y from till slot k old taken (Taken.Refused kind p) = taken ≡ bad kind p
+
+pub record TookLine (t columns columns′ : List ℕ) (x y : Index) (from till slot k : ℕ) (old : CodeState) (taken : Step) (r : Taken) : Type 0 where
+  pub case : LineCase t columns columns′ x y from till slot k old taken r
+
+pub record LineAsks (t columns : List ℕ) (x : Index) (from till parts slot : ℕ) (s : CodeState) : Type 0 where
+  pub order : from ≤ till
+  pub inText : till < length t
+  pub short : till < 65536
+  pub parts-are : parts ≡ length (fields (between t from till))
+  pub room : Room x slot
+  pub wide : elements ≤ length columns
+  pub known : Known s columns
+
+-- ---- the whole text
+
+-- The row of the index for observation k: those from the first on have rows 0, 1, .., as many as there is room for; all others the last.
+unfoldable pub slotOf : ℕ → ℕ → ℕ → ℕ
+slotOf first room k = cond (leb first k && ltb (k - first) room) (k - first) room
+
+-- The answer at the end of the text.
+abbrev pub checkedAt : Need → ℕ → ℕ → Checked
+checkedAt Need.Version n k = Checked.Accepted k
+checkedAt Need.Columns n k = Checked.Refused (record { kind = BlockUnfinished; line = n; place = 0 })
+checkedAt Need.Row n k = Checked.Refused (record { kind = BlockUnfinished; line = n; place = 0 })
+checkedAt Need.Nothing n k = Checked.Accepted k

@@ -1,0 +1,5 @@
+pub mod Report
+pub mod Places
+pub mod Answers
+pub mod Index
+pub mod Inner

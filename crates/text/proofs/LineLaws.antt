@@ -1,0 +1,242 @@
+-- Laws of lines, fields and blanks: one for each step and each end of a loop, and those that the crates above cite.
+use Prim.Native.Nat.{ℕ, zero, suc, _≤_, _<_, _+_, _-_}
+use mathlib.Core.Path.{_≡_, refl, ap, sym, _∙_}
+use mathlib.Core.List.{List, [], _∷_, _++_}
+use mathlib.Core.Bool.{Bool, true, false, cond, _&&_}
+use lib.ListN.{length, take, drop, getD, drop-of-length-le, length-drop, length-take}
+use lib.Dec.{eqb}
+use lib.Seq.{take-all, take-nil, take-take, drop-drop, drop-cons, take-suc, take-length}
+use borrow.Author.Tests.{eq-eqb, ne-eqb}
+use native.Mathlib.Numerals.{add-one}
+use native.Mathlib.Omega.{arith}
+use native.Mathlib.Nat.{sub-zero, zero-sub, suc-sub-suc}
+use Rattle.text.proofs.Bools.{bools}
+use Rattle.text.specs.Lines.{isPrintable, printable, upTo, firstLine, Lines, end, cut, line, lines, fields, into, leadingBlanks, dropLead, dropTrail, trim, fieldFrom, TrimmedIs, FieldAt, ScannedIs}
+
+pub upTo-le : (m : ℕ) (s : List ℕ) → upTo m s ≤ length s
+upTo-le m [] = omega arith
+upTo-le m (b ∷ t) = bools (eqb b m) (λ e. rw e (omega arith)) (λ e. rw e (omega (arith, upTo-le m t)))
+
+-- Lines.
+
+pub first-line : (s : List ℕ) → take (upTo 10 s) s ≡ firstLine s
+first-line [] = refl
+first-line (b ∷ t) = bools (eqb b 10) (λ e. rw e) (λ e. rw (e, first-line t))
+
+-- A text with an LF is its first line, and the text after that LF.
+pub lines-line : (s : List ℕ) → upTo 10 s < length s → lines s ≡ line (firstLine s) (lines (drop (suc (upTo 10 s)) s))
+lines-line [] h = absurd (omega arith)
+lines-line (b ∷ t) h = bools (eqb b 10) (λ e. rw e) (λ e. rw (e, lines-line t (omega (arith, rw e at h))))
+
+-- Without an LF it is cut off.
+pub lines-cut : (b : ℕ) (t : List ℕ) → upTo 10 (b ∷ t) ≡ length (b ∷ t) → lines (b ∷ t) ≡ cut (b ∷ t)
+lines-cut b [] h = bools (eqb b 10) (λ e. absurd (omega (arith, rw e at h))) (λ e. rw e)
+lines-cut b (x ∷ t) h = bools (eqb b 10) (λ e. absurd (omega (arith, rw e at h))) (λ e. rw (e, lines-cut x t (omega (arith, rw e at h))))
+
+module _ (m : ℕ) (s : List ℕ) (i : ℕ) (inv : upTo m s ≡ i + upTo m (drop i s)) where
+  pub upTo-on : i < length s → (getD s i 0 ≡ m → ⊥) → upTo m s ≡ (i + 1) + upTo m (drop (i + 1) s)
+  upTo-on h n =
+      let e : upTo m (drop i s) ≡ suc (upTo m (drop (i + 1) s)) = rw (add-one, drop-cons s i 0, ne-eqb _ _ n) in omega arith
+
+  pub upTo-here : i < length s → getD s i 0 ≡ m → i ≡ upTo m s
+  upTo-here h q = let e : upTo m (drop i s) ≡ 0 = rw (drop-cons s i 0, eq-eqb _ _ q) in omega arith
+
+  pub upTo-end : length s ≤ i → i ≡ upTo m s
+  upTo-end h = let e : upTo m (drop i s) ≡ 0 = rw drop-of-length-le in omega arith
+
+-- Fields.
+
+-- A line's fields: up to the first bar, and those after it.
+pub fields-more : (s : List ℕ) → upTo 124 s < length s → fields s ≡ take (upTo 124 s) s ∷ fields (drop (suc (upTo 124 s)) s)
+fields-more [] h = absurd (omega arith)
+fields-more (b ∷ t) h = bools (eqb b 124) (λ e. rw e) (λ e. rw (e, fields-more t (omega (arith, rw e at h))))
+
+pub fields-last : (s : List ℕ) → upTo 124 s ≡ length s → fields s ≡ take (upTo 124 s) s ∷ []
+fields-last [] h = refl
+fields-last (b ∷ t) h =
+    bools (eqb b 124) (λ e. absurd (omega (arith, rw e at h))) (λ e. rw (e, fields-last t (omega (arith, rw e at h))))
+
+-- There is a first field, up to the first bar.
+pub fields-first : (s : List ℕ) → (r : List (List ℕ)) × (fields s ≡ take (upTo 124 s) s ∷ r)
+fields-first [] = ([], refl)
+fields-first (b ∷ t) =
+    bools (eqb b 124) (λ e. (fields t, rw e)) (λ e. (fields-first t .0, rw (e, fields-first t .1)))
+
+into-length : (b : ℕ) (t : List ℕ) → length (into b (fields t)) ≡ length (fields t)
+into-length b t = rw (fields-first t .1)
+
+-- One pass over the first line: what is left of it comes to the same.
+pub record Scanning (s : List ℕ) (right : Bool) (parts i : ℕ) : Type 0 where
+  pub within : i ≤ length s
+  pub few : parts ≤ suc i
+  pub size : upTo 10 s ≡ i + upTo 10 (drop i s)
+  pub all : printable (firstLine s) ≡ right && printable (firstLine (drop i s))
+  pub count : suc (length (fields (firstLine s))) ≡ parts + length (fields (firstLine (drop i s)))
+
+pub scan-start : (s : List ℕ) → Scanning s true 1 0
+scan-start s = record { within = omega arith; few = omega arith; size = omega arith; all = refl; count = omega arith }
+
+and-true : (a : Bool) → a && true ≡ a
+and-true true = refl
+and-true false = refl
+
+and-assoc : (a b c : Bool) → a && (b && c) ≡ (a && b) && c
+and-assoc true b c = refl
+and-assoc false b c = refl
+
+bar-count : (b : ℕ) (t : List ℕ) → length (fields (b ∷ t)) ≡ cond (eqb b 124) 1 0 + length (fields t)
+bar-count b t = bools (eqb b 124) (λ e. rw e (omega arith)) (λ e. rw e (omega (arith, into-length b t)))
+
+module _ (s : List ℕ) (right : Bool) (parts i : ℕ) (v : Scanning s right parts i) where
+  pub scan-here : i < length s → getD s i 0 ≡ 10 → ScannedIs s i right parts
+  scan-here h q =
+      let f : firstLine (drop i s) ≡ [] = rw (drop-cons s i 0, eq-eqb _ _ q) in
+      let p : printable (firstLine s) ≡ right && true = rw f at (v .all) in
+      let n : suc (length (fields (firstLine s))) ≡ parts + 1 = rw f at (v .count) in
+      record { size-is = upTo-here 10 s i (v .size) h q; right-is = sym (p ∙ and-true right); parts-is = omega arith }
+
+  pub scan-end : length s ≤ i → ScannedIs s i right parts
+  scan-end h =
+      let f : firstLine (drop i s) ≡ [] = rw drop-of-length-le in
+      let p : printable (firstLine s) ≡ right && true = rw f at (v .all) in
+      let n : suc (length (fields (firstLine s))) ≡ parts + 1 = rw f at (v .count) in
+      record { size-is = upTo-end 10 s i (v .size) h; right-is = sym (p ∙ and-true right); parts-is = omega arith }
+
+  pub scan-on : i < length s → (getD s i 0 ≡ 10 → ⊥) → (p : Bool) → p ≡ isPrintable (getD s i 0) → (n : ℕ) → n ≡ cond (eqb (getD s i 0) 124) 1 0
+      → Scanning s (right && p) (parts + n) (i + 1)
+  scan-on h q p e n g =
+      let f : firstLine (drop i s) ≡ getD s i 0 ∷ firstLine (drop (i + 1) s) = rw (add-one, drop-cons s i 0, ne-eqb _ _ q) in
+      let b : n ≤ 1 = rw g (at-most (eqb (getD s i 0) 124)) in
+      let c : length (fields (getD s i 0 ∷ firstLine (drop (i + 1) s))) ≡ n + length (fields (firstLine (drop (i + 1) s))) =
+      rw g (bar-count (getD s i 0) (firstLine (drop (i + 1) s))) in
+      let d = rw f at (v .count) in
+      record {
+        within = omega arith;
+        few = omega (arith, v .few);
+        size = upTo-on 10 s i (v .size) h q;
+        all = rw e (v .all ∙ (ap (λ (l : List ℕ). right && printable l) f ∙ and-assoc right (isPrintable (getD s i 0)) _));
+        count = omega (arith, c, d);
+      }
+    where
+      at-most : (b : Bool) → cond b 1 0 ≤ 1
+      at-most true = omega arith
+      at-most false = omega arith
+
+-- Blanks.
+
+pub blanks-le : (s : List ℕ) → leadingBlanks s ≤ length s
+blanks-le [] = omega arith
+blanks-le (b ∷ t) = bools (eqb b 32) (λ e. rw e (omega (arith, blanks-le t))) (λ e. rw e (omega arith))
+
+pub drop-blanks : (s : List ℕ) → drop (leadingBlanks s) s ≡ dropLead s
+drop-blanks [] = refl
+drop-blanks (b ∷ t) = bools (eqb b 32) (λ e. rw (e, drop-blanks t)) (λ e. rw e)
+
+module _ (s : List ℕ) (i : ℕ) (inv : leadingBlanks s ≡ i + leadingBlanks (drop i s)) where
+  pub blanks-on : i < length s → getD s i 0 ≡ 32 → leadingBlanks s ≡ (i + 1) + leadingBlanks (drop (i + 1) s)
+  blanks-on h q =
+      let e : leadingBlanks (drop i s) ≡ suc (leadingBlanks (drop (i + 1) s)) = rw (add-one, drop-cons s i 0, eq-eqb _ _ q) in omega arith
+
+  pub blanks-here : i < length s → (getD s i 0 ≡ 32 → ⊥) → i ≡ leadingBlanks s
+  blanks-here h n = let e : leadingBlanks (drop i s) ≡ 0 = rw (drop-cons s i 0, ne-eqb _ _ n) in omega arith
+
+  pub blanks-end : length s ≤ i → i ≡ leadingBlanks s
+  blanks-end h = let e : leadingBlanks (drop i s) ≡ 0 = rw drop-of-length-le in omega arith
+
+-- A blank at the end goes, and any other byte stays.
+trail-blank : (s : List ℕ) (b : ℕ) → b ≡ 32 → dropTrail (s ++ b ∷ []) ≡ dropTrail s
+trail-blank [] b h = rw (eq-eqb _ _ h)
+trail-blank (x ∷ t) b h = rw (trail-blank t b h)
+
+trail-other : (s : List ℕ) (b : ℕ) → (b ≡ 32 → ⊥) → dropTrail (s ++ b ∷ []) ≡ s ++ b ∷ []
+trail-other [] b n = rw (ne-eqb _ _ n)
+trail-other (x ∷ []) b n = rw (trail-other [] b n)
+trail-other (x ∷ y ∷ t) b n = rw (trail-other (y ∷ t) b n)
+
+take-last : (s : List ℕ) (e : ℕ) → 0 < e → e ≤ length s → take e s ≡ take (e - 1) s ++ (getD s (e - 1) 0 ∷ [])
+take-last s e p h =
+    let q : e ≡ suc (e - 1) = omega arith in ap (λ (k : ℕ). take k s) q ∙ take-suc s (e - 1) 0 (omega arith)
+
+module _ (s : List ℕ) (e : ℕ) (inv : dropTrail s ≡ dropTrail (take e s)) where
+  pub trail-on : 0 < e → e ≤ length s → getD s (e - 1) 0 ≡ 32 → dropTrail s ≡ dropTrail (take (e - 1) s)
+  trail-on p h q = inv ∙ rw (take-last s e p h, trail-blank _ _ q)
+
+  pub trail-here : 0 < e → e ≤ length s → (getD s (e - 1) 0 ≡ 32 → ⊥) → take e s ≡ dropTrail s
+  trail-here p h n = rw (inv, take-last s e p h, trail-other _ _ n)
+
+  pub trail-end : e ≤ 0 → take e s ≡ dropTrail s
+  trail-end h = let q : e ≡ 0 = omega arith in rw (inv, q)
+
+pub trail-start : (s : List ℕ) → dropTrail s ≡ dropTrail (take (length s) s)
+trail-start s = rw take-length
+
+-- Parts.
+
+-- What `&s[a..]` holds.
+pub rest-of : (s : List ℕ) (a : ℕ) → a ≤ length s → take (length s - a) (drop a s) ≡ drop a s
+rest-of s a h = take-all (length s - a) (drop a s) (omega (arith, length-drop a s))
+
+pub rest-length : (s : List ℕ) (a : ℕ) → a ≤ length s → length (take (length s - a) (drop a s)) ≡ length s - a
+rest-length s a h = rw (rest-of s a h, length-drop)
+
+pub drop-take : (s w : ℕ) (x : List ℕ) → drop s (take w x) ≡ take (w - s) (drop s x)
+drop-take zero w x = rw sub-zero
+drop-take (suc s) zero x = rw zero-sub
+drop-take (suc s) (suc w) [] = rw (suc-sub-suc, take-nil)
+drop-take (suc s) (suc w) (b ∷ t) = rw (suc-sub-suc, drop-take s w t)
+
+-- A part of a part.
+pub part-of-part : (l : List ℕ) (a w s n : ℕ) → s + n ≤ w → take n (drop s (take w (drop a l))) ≡ take n (drop (a + s) l)
+part-of-part l a w s n h =
+    let k : n ≤ w - s = omega arith in
+    rw (drop-take s w (drop a l), take-take n (w - s) (drop s (drop a l)) k, drop-drop)
+
+length-of-take : (n : ℕ) (s : List ℕ) → n ≤ length s → length (take n s) ≡ n
+length-of-take n s h = omega (arith, length-take n s)
+
+pub trim-parts : (s : List ℕ) (a n : ℕ) → (a ≡ leadingBlanks s) × (a ≤ length s)
+    → (take n (take (length s - a) (drop a s)) ≡ dropTrail (take (length s - a) (drop a s))) × (n ≤ length (take (length s - a) (drop a s)))
+    → TrimmedIs s a n
+trim-parts s a n (l, h) (e, k) =
+    let r = rest-of s a h in
+    let d : drop a s ≡ dropLead s = ap (λ (x : ℕ). drop x s) l ∙ drop-blanks s in
+    let v : take n (drop a s) ≡ trim s = rw (← d) (rw r at e) in
+    let m : n ≤ length (drop a s) = rw r at k in
+    record {
+      start-is = l;
+      size-is = sym (length-of-take n (drop a s) m) ∙ ap (λ (x : List ℕ). length x) v;
+      value = v;
+      within = omega (arith, m, length-drop a s);
+    }
+
+-- What `field_at` returns is the field at a.
+pub field-parts : (l : List ℕ) (a w s n : ℕ) → a ≤ length l
+    → w ≡ upTo 124 (take (length l - a) (drop a l))
+    → TrimmedIs (take (a + w - a) (drop a l)) s n
+    → FieldAt l a (a + s) n (a + w)
+field-parts l a w s n h u v =
+    let w-is : w ≡ upTo 124 (drop a l) = u ∙ ap (λ (x : List ℕ). upTo 124 x) (rest-of l a h) in
+    let c : a + w - a ≡ w = omega arith in
+    let f : take (a + w - a) (drop a l) ≡ fieldFrom l a = rw c (ap (λ (x : ℕ). take x (drop a l)) w-is) in
+    let fits : s + n ≤ w = omega (arith, v .within, length-take (a + w - a) (drop a l)) in
+    record {
+      start-is = ap (λ (x : ℕ). a + x) (v .start-is ∙ ap (λ (x : List ℕ). leadingBlanks x) f);
+      size-is = v .size-is ∙ ap (λ (x : List ℕ). length (trim x)) f;
+      till-is = omega arith;
+      value = sym (part-of-part l a w s n fits) ∙ (rw c at (v .value)) ∙ ap (λ (x : List ℕ). trim x) (rw c at f);
+      within = omega arith;
+      fits = λ k. omega (arith, upTo-le 124 (drop a l), length-drop a l);
+    }
+
+-- Past the end of the line there is nothing.
+pub field-past : (l : List ℕ) (a : ℕ) → length l < a → FieldAt l a a 0 a
+field-past l a h =
+    let e : drop a l ≡ [] = drop-of-length-le l {i = a} (omega arith) in
+    record {
+      start-is = rw e (omega arith);
+      size-is = rw e;
+      till-is = rw e (omega arith);
+      value = rw e;
+      within = omega arith;
+      fits = λ k. omega arith;
+    }

@@ -1,0 +1,59 @@
+use Prim.Native.Nat.{_-_}
+use lib.ListN.{length}
+use Rattle.text.proofs.LineLaws.{Scanning, scan-start, scan-here, scan-on, scan-end}
+use borrow.Author.Needs.{needs}
+use Rattle.text.proofs.lines.scan.Statement.{statement}
+use Rattle.text.proofs.lines.scan.Tie as tie
+
+abbrev Inv-loop : tie.InvT-loop
+Inv-loop text printable₀ fields₀ i₀ printable fields i = Scanning text printable fields i
+
+abbrev μ-loop : tie.MeasureT-loop
+μ-loop text printable₀ fields₀ i₀ printable fields i = length text - i
+
+loop-holds : tie.Need-loop-holds Inv-loop μ-loop
+loop-holds c = scan-start (c .before .args .text .now)
+
+shared-slice-read-b : tie.Need-shared-slice-read-b Inv-loop μ-loop
+shared-slice-read-b c = search needs
+
+returns : tie.Need-returns Inv-loop μ-loop
+returns c = scan-here _ _ _ _ (c .before .before .before .loop .inv) (c .before .before .loop-test .taken) (c .if1 .taken)
+
+is-printable-requires : tie.Need-is-printable-requires Inv-loop μ-loop
+is-printable-requires c κs = search needs
+
+bars-requires : tie.Need-bars-requires Inv-loop μ-loop
+bars-requires c κs = search needs
+
+add-fields : tie.Need-add-fields Inv-loop μ-loop
+add-fields c = search needs
+
+add-i : tie.Need-add-i Inv-loop μ-loop
+add-i c = search needs
+
+loop-less : tie.Need-loop-less Inv-loop μ-loop
+loop-less c = search needs
+
+loop-again : tie.Need-loop-again Inv-loop μ-loop
+loop-again c = scan-on _ _ _ _ (c .before .before .before .before .before .loop .inv) (c .before .before .before .before .loop-test .taken) (c .before .before .if1 .left) _ (c .before .is-printable .ensures) _ (c .bars .ensures .0)
+
+returns-2 : tie.Need-returns-2 Inv-loop μ-loop
+returns-2 c = scan-end _ _ _ _ (c .before .loop .inv) (c .loop-test .left)
+
+pub scan-spec : {M : Type 1} → statement M
+scan-spec =
+    tie.close
+    (tie.spec
+    Inv-loop
+    μ-loop
+    loop-holds
+    shared-slice-read-b
+    returns
+    is-printable-requires
+    bars-requires
+    add-fields
+    add-i
+    loop-less
+    loop-again
+    returns-2)

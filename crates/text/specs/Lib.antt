@@ -1,0 +1,6 @@
+pub mod Bytes
+pub mod Class
+pub mod Digits
+pub mod Lines
+pub mod Output
+pub mod Part

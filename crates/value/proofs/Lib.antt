@@ -1,0 +1,6 @@
+pub mod Days
+pub mod Degrees
+pub mod Moments
+pub mod Numerals
+pub mod Signs
+pub mod Words

@@ -1,0 +1,10 @@
+pub mod Angle
+pub mod Calendar
+pub mod Centre
+pub mod Characters
+pub mod Decimal
+pub mod Designation
+pub mod Numeral
+pub mod Sign
+pub mod Time
+pub mod Word
