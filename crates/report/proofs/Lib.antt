@@ -1,4 +1,5 @@
 pub mod ColumnLaws
+pub mod Join
 pub mod RowLaws
 pub mod LineSteps
 pub mod ReaderLaws

@@ -1,0 +1,30 @@
+-- Packing the empty report writes nothing.
+use mathlib.Core.Path.{_≡_, refl}
+use mathlib.Core.List.{List, [], _∷_}
+use Prim.Native.Nat.{ℕ}
+use native.Mathlib.Omega.{arith}
+use Rattle.cuts.specs.Cuts.{Yields}
+use Rattle.layout.specs.Written.{written, Valid}
+use Rattle.layout.specs.Packed.{PackedIs}
+use Rattle.layout.proofs.ReadsBack.{empty-reads}
+use Rattle.layout.proofs.Unique.{unique}
+
+-- The packed report of no observations is the empty text.
+pub empty : PackedIs [] []
+unfolding written
+empty = record {
+  cuts = [];
+  valid = tt;
+  is = refl;
+  reads = empty-reads;
+  least = λ other h. omega arith;
+  last = λ others v e. last others v;
+}
+  where
+    last : (others : List ℕ) → Valid others [] → Yields others []
+    last [] v = tt
+    last (k ∷ ks) v = absurd v
+
+-- And no other text is.
+pub empty-only : (text : List ℕ) → PackedIs [] text → text ≡ []
+empty-only text p = unique [] text [] p empty

@@ -1,0 +1,13 @@
+pub mod ColumnLaws
+pub mod FieldLaws
+pub mod Accepted
+pub mod BlockReads
+pub mod ReadsBack
+pub mod BlockBytes
+pub mod NoShorter
+pub mod Unique
+pub mod Packed
+pub mod Empty
+pub mod Computed
+pub mod SpecimenPacks
+pub mod Shams

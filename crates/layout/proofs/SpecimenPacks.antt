@@ -1,0 +1,49 @@
+-- A report of one observation packs to one block, and so the specimen packs to itself.
+use Prim.Native.Nat.{ℕ, zero, suc}
+use mathlib.Core.Path.{_≡_, refl, ap}
+use mathlib.Core.List.{List, [], _∷_}
+use mathlib.Core.Logic.{inr}
+use native.Mathlib.Omega.{arith}
+use Rattle.element.specs.Observation.{Observation}
+use Rattle.report.specs.Report.{accepted, read}
+use Rattle.cuts.specs.Cuts.{cost, Cuts, Wanted}
+use Rattle.cuts.specs.Block.{Row, blockBytes, allMore}
+use Rattle.layout.specs.Written.{written}
+use Rattle.layout.specs.Packed.{PackedIs}
+use Rattle.layout.specs.Cost.{asRow}
+use Rattle.layout.specs.Specimen.{specimen, specimenObservation}
+use Rattle.layout.proofs.Computed.{reading, writing}
+use Rattle.layout.proofs.Packed.{packed}
+
+-- One row is cut in one way.
+one-cut : (cuts : List ℕ) (x : Row) → Cuts allMore cuts (x ∷ []) → cuts ≡ 1 ∷ []
+one-cut [] x v = absurd v
+one-cut (zero ∷ ks) x v = absurd v
+one-cut (suc zero ∷ []) x v = refl
+one-cut (suc zero ∷ k ∷ ks) x v = absurd (v .1)
+one-cut (suc (suc k) ∷ ks) x v = absurd (omega (arith, v .0))
+
+-- So that way is the wanted one.
+one-wanted : (x : Row) → Wanted blockBytes allMore (x ∷ []) (1 ∷ [])
+one-wanted x = record {
+  cuts = (omega arith, tt);
+  least = λ cuts v. omega (arith, ap (λ (ks : List ℕ). cost blockBytes ks (x ∷ [])) (one-cut cuts x v));
+  last = λ cuts v e. rw (one-cut cuts x v) (inr (refl, tt));
+}
+
+-- One observation packs to one block.
+pub one-packs : (t : List ℕ) (o : Observation) → read t ≡ accepted (o ∷ []) → PackedIs (o ∷ []) (written (1 ∷ []) (o ∷ []))
+one-packs t o h = packed t (o ∷ []) (1 ∷ []) h (one-wanted (asRow o))
+
+-- The specimen is accepted, with one observation.
+pub specimen-reads : read specimen ≡ accepted (specimenObservation ∷ [])
+unfolding reading
+specimen-reads = refl
+
+specimen-written : written (1 ∷ []) (specimenObservation ∷ []) ≡ specimen
+unfolding writing
+specimen-written = refl
+
+-- The specimen packs to itself.
+pub specimen-packs : PackedIs (specimenObservation ∷ []) specimen
+specimen-packs = rw specimen-written at (one-packs specimen specimenObservation specimen-reads)

@@ -1,0 +1,4 @@
+pub mod Written
+pub mod Packed
+pub mod Cost
+pub mod Specimen

@@ -1,0 +1,19 @@
+-- The promise of packing, over what reading means. Nothing here speaks of a search.
+use Prim.Native.Nat.{ℕ, _≤_}
+use mathlib.Core.Path.{_≡_}
+use mathlib.Core.List.{List}
+use lib.ListN.{length}
+use Rattle.element.specs.Observation.{Observation}
+use Rattle.report.specs.Report.{accepted, read}
+use Rattle.cuts.specs.Cuts.{Yields}
+use Rattle.layout.specs.Written.{written, Valid}
+
+-- The text is the packed report of the observations: they are written by some cuts, they read back, no text that reads as them is
+-- shorter, and every other cutting as short yields to these cuts.
+pub record PackedIs (observations : List Observation) (text : List ℕ) : Type 0 where
+  pub cuts : List ℕ
+  pub valid : Valid cuts observations
+  pub is : text ≡ written cuts observations
+  pub reads : read text ≡ accepted observations
+  pub least : (other : List ℕ) → read other ≡ accepted observations → length text ≤ length other
+  pub last : (others : List ℕ) → Valid others observations → length (written others observations) ≡ length text → Yields others cuts
