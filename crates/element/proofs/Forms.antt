@@ -64,6 +64,7 @@ alike : Bool → Bool → Bool
 alike true b = b
 alike false b = not b
 
+-- Tests that are alike are equal.
 alike-is : (a b : Bool) → T (alike a b) → a ≡ b
 unfolding alike
 alike-is true true t = refl
@@ -71,6 +72,7 @@ alike-is true false t = absurd t
 alike-is false true t = absurd t
 alike-is false false t = refl
 
+-- The element has a value just where the list has its number.
 valued-test : ℕ → Bool
 valued-test index = alike (hasValue index) (isAmong valued (index + 1))
 

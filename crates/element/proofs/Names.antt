@@ -23,12 +23,15 @@ starts = 0 ∷ 6 ∷ 12 ∷ 18 ∷ 24 ∷ 29 ∷ 37 ∷ 41 ∷ 44 ∷ 47 ∷ 50 
 abbrev pub cut : ℕ → List ℕ
 cut index = take (getD starts (index + 1) 0 - getD starts index 0) (drop (getD starts index 0) allNames)
 
+-- The part is the name.
 cut-test : ℕ → Bool
 cut-test index = same (cut index) (nameOf index)
 
+-- The part is as long as the name.
 size-test : ℕ → Bool
 size-test index = eqb (getD starts (index + 1) 0 - getD starts index 0) (length (nameOf index))
 
+-- The name does not start after the next one.
 order-test : ℕ → Bool
 order-test index = leb (getD starts index 0) (getD starts (index + 1) 0)
 
@@ -46,7 +49,7 @@ module _ (index : ℕ) (h : index < elements) where
   unfolding order-test
   in-order = leb→le _ _ (below order-test elements tt index h)
 
--- One name more in a search, and its end.
+-- One name more in a search.
 module _ (all : List (List ℕ)) (name : List ℕ) (i : ℕ) (h : i < length all) where
   pub index-yes : same name (getD all i []) ≡ true → indexIn (drop i all) name ≡ 0
   unfolding indexIn
@@ -56,10 +59,12 @@ module _ (all : List (List ℕ)) (name : List ℕ) (i : ℕ) (h : i < length all
   unfolding indexIn
   index-no e = rw (drop-cons all i [] h, e, add-one)
 
+-- Past the last name the search has found nothing.
 pub index-end : (name : List ℕ) (i : ℕ) → i ≡ elements → indexIn (drop i names) name ≡ 0
 unfolding indexIn
 index-end name i e = rw e
 
+-- The name is found at its place.
 index-test : ℕ → Bool
 index-test index = eqb (indexOf (nameOf index)) index
 
@@ -81,6 +86,7 @@ every test (byte ∷ text) = test byte && every test text
 abbrev pub isNameByte : ℕ → Bool
 isNameByte byte = leb 33 byte && leb byte 126 && not (eqb byte 124)
 
+-- A test whose negation is true is false.
 unless : (t : Bool) → not t ≡ true → t ≡ false
 unless true e = sym e
 unless false e = refl

@@ -45,6 +45,7 @@ module _ (numbers : List ℕ) (holds : ℕ → Bool) (i : ℕ) where
 pub none-past : (set e : ℕ) → set < 2 ^ 64 → 64 ≤ e → eqb (set / 2 ^ e % 2) 1 ≡ false
 none-past set e h k = rw (div-eq-of-lt (lt-of-lt-of-le h (pow-le-pow-right {n = 2} (lit< tt) {i = 64} {j = e} k)))
 
+-- What is sound came out of the first case.
 sound-test : (t : Bool) (rest : Fault) → cond t rest (At ElementMissing 1) ≡ Sound → t ≡ true
 sound-test true rest e = refl
 sound-test false rest e = let z : _≡_ {A = ℕ} 0 1 = cc in absurd (omega arith)

@@ -37,6 +37,7 @@ has-set (v ∷ o) (suc e) =
     let half : (setOf o * 2 + bit (isPresent v)) / 2 ≡ setOf o = omega (arith, bit-small (isPresent v)) in
     rw (pow-succ' 2 e, ← div-div-eq-div-mul (setOf o * 2 + bit (isPresent v)) 2 (2 ^ e), half) (has-set o e)
 
+-- A bit joined with 1 is 1.
 or-one : (t : Bool) → bitOr (bit t) 1 ≡ 1
 or-one true = refl
 or-one false = refl
@@ -60,6 +61,7 @@ set-mark (w ∷ o) (suc c) v h p =
 pub set-same : (o : Observation) (c : ℕ) → getD o c [] ≡ [] → setOf (set o c []) ≡ setOf o
 set-same o c e = ap setOf (rw e at (set-getD o c []))
 
+-- A bit is 1 where its test holds.
 bit-test : (t : Bool) → eqb (bit t) 1 ≡ t
 bit-test true = refl
 bit-test false = refl

@@ -1,5 +1,5 @@
 -- Where the reader notes an accepted report's values, for the crates above: a list of sets, and two lists of starts and lengths.
-use Prim.Native.Nat.{ℕ, _+_, _*_, _≤_, _<_}
+use Prim.Native.Nat.{ℕ, _+_, _-_, _*_, _/_, _≤_, _<_, min}
 use mathlib.Core.Path.{_≡_}
 use mathlib.Core.List.{List, []}
 use mathlib.Core.Bool.{Bool, true}
@@ -19,6 +19,13 @@ pub record Index : Type 0 where
 
 abbrev pub lent : List ℕ → List ℕ → List ℕ → Index
 lent sets starts lengths = record { sets = sets; starts = starts; lengths = lengths }
+
+-- How many rows lent lists hold; one of them is for the reader's own use.
+abbrev pub rowsIn : List ℕ → List ℕ → List ℕ → ℕ
+rowsIn sets starts lengths = min (length sets) (min (length starts / elements) (length lengths / elements))
+
+abbrev pub roomIn : List ℕ → List ℕ → List ℕ → ℕ
+roomIn sets starts lengths = rowsIn sets starts lengths - 1
 
 -- Entry j notes the value v, which lies at a place of the text.
 pub record Slot (t starts lengths : List ℕ) (j place : ℕ) (v : List ℕ) : Type 0 where

@@ -1,5 +1,5 @@
 -- What the reader's private functions promise each other. A reviewer of the report's rules can skip this file.
-use Prim.Native.Nat.{ℕ, suc, _+_, _-_, _*_, _^_, _≤_, _<_}
+use Prim.Native.Nat.{ℕ, suc, _+_, _-_, _*_, _/_, _%_, _^_, _≤_, _<_}
 use mathlib.Core.Path.{_≡_}
 use mathlib.Core.List.{List, []}
 use mathlib.Core.Bool.{Bool, cond, _&&_}
@@ -15,11 +15,14 @@ use Rattle.refusal.specs.declared.Fault.{Fault}
 use Rattle.refusal.specs.declared.Fault.the-variants.{Sound, At}
 use Rattle.element.specs.Table.{elements}
 use Rattle.element.specs.Observation.{Observation, isPresent, setOf, isWgs84, isEarth, setFault}
-use Rattle.report.specs.Report.{State, Step, next, row, bad, columnsFrom, fieldFault, rowOf, dataLine, other, step, rowLimit}
-use Rattle.report.specs.Places.{startsOf}
+use Rattle.report.specs.Report.{State, Step, next, row, bad, columnsFrom, fieldFault, rowOf, dataLine, other, step, read, rowLimit}
+use Rattle.report.specs.Places.{startsOf, places}
+use Rattle.report.specs.Answers.{shownOf, showingOf}
 use Rattle.report.specs.Index.{Index, Shows, Noted}
 use Rattle.report.specs.declared.answer.Checked.{Checked}
 use Rattle.report.specs.declared.answer.Checked.the-variants as Checked
+use Rattle.report.specs.declared.answer.Showing.{Showing}
+use Rattle.report.specs.declared.answer.Showing.the-variants as Showing
 use Rattle.report.specs.declared.row.Marks.{Marks}
 use Rattle.report.specs.declared.row.Fields.{Fields}
 use Rattle.report.specs.declared.row.Fields.the-variants as Fields
@@ -213,3 +216,15 @@ checkedAt Need.Version n k = Checked.Accepted k
 checkedAt Need.Columns n k = Checked.Refused (record { kind = BlockUnfinished; line = n; place = 0 })
 checkedAt Need.Row n k = Checked.Refused (record { kind = BlockUnfinished; line = n; place = 0 })
 checkedAt Need.Nothing n k = Checked.Accepted k
+
+-- ---- one value
+
+-- What the first row of an index shows of an element.
+unfoldable pub slotShown : List ℕ → List ℕ → List ℕ → ℕ → Showing
+slotShown sets starts lengths e =
+    cond (eqb (getD sets 0 0 / 2 ^ e % 2) 1) (Showing.At (getD starts e 0) (getD lengths e 0)) Showing.Absent
+
+-- Where a value lies, and that it lies there.
+pub record LocatedIs (t : List ℕ) (n e : ℕ) (r : Showing) : Type 0 where
+  pub is : r ≡ showingOf (read t) (places t) n e
+  pub lies : (start size : ℕ) → r ≡ Showing.At start size → (start + size ≤ length t) × (take size (drop start t) ≡ shownOf (read t) n e)

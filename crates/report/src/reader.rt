@@ -7,6 +7,7 @@ use crate::state::Taken;
 use refusal::Kind;
 use refusal::Refusal;
 ghost use mathlib.Core.Path.{_≡_};
+ghost use mathlib.Core.List.{[]};
 ghost use Prim.Native.Nat.{_≤_};
 ghost use Rattle.report.specs.Index.{lent, IndexIs};
 ghost use Rattle.report.specs.Inner.{slotOf, Room, checkedAt};
@@ -79,6 +80,16 @@ pub(crate) fn read(
     }
     let need = state.need;
     at_end(need, number, k)
+}
+
+// A report read with nothing noted.
+pub(crate) fn count(report: &[u8]) -> Checked
+    ensures { λ r. ⌜ IndexIs (now (report .entry)) 0 0 (lent [] [] []) r ⌝ }
+{
+    let mut sets = [0u64; 1];
+    let mut starts = [0u16; 29];
+    let mut lengths = [0u16; 29];
+    read(report, 0, 0, &mut sets, &mut starts, &mut lengths)
 }
 
 // The end of the text, at the line after the last: 5 where the block lacks its column or data line.

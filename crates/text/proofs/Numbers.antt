@@ -38,6 +38,7 @@ unfolding after
 after-below n b i h =
     bools (isDigit b) (λ e. rw e (omega (arith, digit-range b e, h, pow-step i))) (λ e. rw e (omega (arith, h, pow-step i)))
 
+-- A count moved from one side of a sum to the other.
 one-more : (i k : ℕ) → i + 1 + k ≡ i + suc k
 one-more i k = omega arith
 

@@ -1,4 +1,5 @@
 -- Classes of bytes, and the bytes of a class that a text starts with or is made of.
+use Prim.Native.Char.{code}
 use Prim.Native.Nat.{ℕ, suc}
 use mathlib.Core.Bool.{Bool, cond, _&&_, _||_}
 use mathlib.Core.List.{List, [], _∷_}
@@ -13,17 +14,17 @@ isBetween first last byte = leb first byte && leb byte last
 
 -- The byte is one of 0 to 9.
 abbrev pub isDigit : ℕ → Bool
-isDigit byte = isBetween 48 57 byte
+isDigit byte = isBetween (code "0") (code "9") byte
 
 -- The byte is one of A to Z.
 abbrev pub isCapital : ℕ → Bool
-isCapital byte = isBetween 65 90 byte
+isCapital byte = isBetween (code "A") (code "Z") byte
 
 -- The byte is of the class. Alphanumerics are the 52 letters, the ten digits, the blank and the underscore.
 abbrev pub isOf : Class → ℕ → Bool
 isOf Digit byte = isDigit byte
 isOf Capital byte = isCapital byte
-isOf Alphanumeric byte = isDigit byte || isCapital byte || isBetween 97 122 byte || eqb byte 32 || eqb byte 95
+isOf Alphanumeric byte = isDigit byte || isCapital byte || isBetween (code "a") (code "z") byte || eqb byte (code " ") || eqb byte (code "_")
 
 -- How many bytes of the class a text starts with.
 unfoldable pub leading : Class → List ℕ → ℕ

@@ -14,14 +14,14 @@ pub fn is_of(class: Class, byte: u8) -> bool
     ensures { λ r. ⌜ r ≡ isOf class byte ⌝ }
 {
     match class {
-        Class::Digit => is_between(48, 57, byte),
-        Class::Capital => is_between(65, 90, byte),
+        Class::Digit => is_between(b'0', b'9', byte),
+        Class::Capital => is_between(b'A', b'Z', byte),
         Class::Alphanumeric => {
-            is_between(48, 57, byte)
-                | is_between(65, 90, byte)
-                | is_between(97, 122, byte)
-                | (byte == 32)
-                | (byte == 95)
+            is_between(b'0', b'9', byte)
+                | is_between(b'A', b'Z', byte)
+                | is_between(b'a', b'z', byte)
+                | (byte == b' ')
+                | (byte == b'_')
         }
     }
 }

@@ -17,6 +17,7 @@ year-step y = rw add-one
 pub year-length-small : (y : ℕ) → yearLength y ≤ 366
 year-length-small y = bools (isLeap y) (λ e. rw e (lit≤ tt)) (λ e. rw e (lit≤ tt))
 
+-- The years before a year have at most 366 days each.
 pub year-small : (y : ℕ) → yearDays y ≤ 366 * y
 unfolding yearDays
 year-small zero = lit≤ tt
@@ -38,6 +39,7 @@ month-length-small leap m = cases (eqb m 2) leap (eqb m 4 || eqb m 6 || eqb m 9 
     cases false b true = lit≤ tt
     cases false b false = lit≤ tt
 
+-- The first months have at most 31 days each.
 pub month-small : (leap : Bool) (m : ℕ) → monthDays leap m ≤ 31 * m
 unfolding monthDays
 month-small leap zero = lit≤ tt

@@ -9,6 +9,7 @@ use mir.Syntax.{w64}
 use mir.Val.{SFits, toZ, ofZ}
 use Rattle.text.proofs.Bools.{bools}
 
+-- A number below zero fits 64 bits.
 negative-fits : (n : ℕ) → n < 2 ^ 63 → SFits w64 (negℤ (pos n))
 negative-fits zero h = record { sfits = h }
 negative-fits (suc n) h = record { sfits = omega arith }
@@ -21,6 +22,7 @@ module _ (n : ℕ) (h : n < 2 ^ 63) where
   pub minus-is : toZ w64 (ofZ w64 (pos 0 -ℤ toZ w64 n)) ≡ negℤ (pos n)
   minus-is = rw (toZ-pos w64 h, +ℤ-idl (negℤ (pos n))) (toZ-ofZ (negative-fits n h))
 
+-- A difference fits 64 bits.
 difference-fits : (a b : ℕ) → a ≤ 1000000000000000000 → b ≤ 1000000000000000000 → SFits w64 (subℕ a b)
 difference-fits a b h k = bools (ltb a b) (λ e. rw e (record { sfits = omega arith })) (λ e. rw e (record { sfits = omega arith }))
 

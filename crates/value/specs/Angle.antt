@@ -1,4 +1,5 @@
 -- ra and dec, in units of 0.000000001 degree.
+use Prim.Native.Char.{code}
 use Prim.Native.Nat.{ℕ, _-_, _*_, _^_}
 use mathlib.Core.Bool.{Bool, true, cond, _&&_, _||_}
 use mathlib.Core.List.{List}
@@ -19,7 +20,7 @@ isDegrees most text = isDecimal text && leb (digits text) most && leb (places te
 
 -- Three digits start with 1, 2 or 3.
 unfoldable pub isRightAscension : List ℕ → Bool
-isRightAscension text = isDegrees 3 text && (ltb (digits text) 3 || ltb (getD text 0 0) 52)
+isRightAscension text = isDegrees 3 text && (ltb (digits text) 3 || ltb (getD text 0 0) (code "4"))
 
 -- The digits with zeros put after them up to nine places.
 unfoldable pub units : List ℕ → ℕ

@@ -1,4 +1,5 @@
 -- Decimals: their form, their places and their values.
+use Prim.Native.Char.{code}
 use Prim.Native.Nat.{ℕ, _-_, _^_}
 use mathlib.Core.Bool.{Bool, true, cond, _&&_, _||_}
 use mathlib.Core.List.{List}
@@ -15,7 +16,7 @@ use Rattle.value.specs.declared.decimal.Range.the-variants.{Any, Positiv
 
 -- A point and at least one digit.
 unfoldable pub isPointed : List ℕ → Bool
-isPointed text = eqb (getD text 0 0) 46 && isDigits (drop 1 text)
+isPointed text = eqb (getD text 0 0) (code ".") && isDigits (drop 1 text)
 
 -- A decimal is digits, then optionally a point and digits, at least one digit on each side of a point.
 unfoldable pub isDecimal : List ℕ → Bool

@@ -1,4 +1,5 @@
 -- permID, provID and artSat.
+use Prim.Native.Char.{code}
 use Prim.Native.Nat.{ℕ}
 use mathlib.Core.Bool.{Bool, not, cond, _&&_, _||_}
 use mathlib.Core.List.{List}
@@ -24,11 +25,11 @@ isEmpty text = eqb (length text) 0
 
 -- Nothing, or a fragment: `-` and one or two capitals.
 unfoldable pub isFragmentOrNone : List ℕ → Bool
-isFragmentOrNone text = isEmpty text || (eqb (getD text 0 0) 45 && isCapitals 1 2 (drop 1 text))
+isFragmentOrNone text = isEmpty text || (eqb (getD text 0 0) (code "-") && isCapitals 1 2 (drop 1 text))
 
 -- The byte is P or D.
 abbrev pub isPorD : ℕ → Bool
-isPorD byte = eqb byte 80 || eqb byte 68
+isPorD byte = eqb byte (code "P") || eqb byte (code "D")
 
 -- A numbered comet: 1 to 6 digits, no leading zero, then P or D, then optional fragment.
 unfoldable pub isNumberedComet : List ℕ → Bool
@@ -43,13 +44,13 @@ permID text =
 
 -- A capital A to Z but not I.
 abbrev pub isCapitalNotI : ℕ → Bool
-isCapitalNotI byte = isCapital byte && not (eqb byte 73)
+isCapitalNotI byte = isCapital byte && not (eqb byte (code "I"))
 
 -- A minor planet: 4 digits, blank, a capital A to Y but not I, a capital A to Z but not I,
 -- then optionally a number without leading zero, 1 to 5 digits.
 unfoldable pub isMinorPlanet : List ℕ → Bool
 isMinorPlanet text =
-    starts (bytes "dddd ") text && isCapitalNotI (getD text 5 0) && not (eqb (getD text 5 0) 90) && isCapitalNotI (getD text 6 0)
+    starts (bytes "dddd ") text && isCapitalNotI (getD text 5 0) && not (eqb (getD text 5 0) (code "Z")) && isCapitalNotI (getD text 6 0)
     && (eqb (length text) 7 || isCount 5 (drop 7 text))
 
 -- A number of 1 to 3 digits without leading zero, and an optional fragment, but none after `A/`.
@@ -59,14 +60,20 @@ isCometNumber asteroid text =
 
 -- The byte is C, P, D, X or A.
 abbrev pub isCometLetter : ℕ → Bool
-isCometLetter byte = eqb byte 67 || isPorD byte || eqb byte 88 || eqb byte 65
+isCometLetter byte = eqb byte (code "C") || isPorD byte || eqb byte (code "X") || eqb byte (code "A")
 
--- A comet: C P D X or A, `/`, 4 digits, blank, one or two capitals, then its number.
+-- How many capitals a text starts with.
+abbrev pub capitals : List ℕ → ℕ
+capitals text = leading Capital text
+
+-- One or two capitals, then the number of a comet.
+unfoldable pub isCometEnd : Bool → List ℕ → Bool
+isCometEnd asteroid text = isCapitals 1 2 (take (capitals text) text) && isCometNumber asteroid (drop (capitals text) text)
+
+-- A comet: C P D X or A, `/`, 4 digits, blank, then its end.
 unfoldable pub isComet : List ℕ → Bool
 isComet text =
-    isCometLetter (getD text 0 0) && starts (bytes "/dddd ") (drop 1 text)
-    && isCapitals 1 2 (take (leading Capital (drop 7 text)) (drop 7 text))
-    && isCometNumber (eqb (getD text 0 0) 65) (drop (leading Capital (drop 7 text)) (drop 7 text))
+    isCometLetter (getD text 0 0) && starts (bytes "/dddd ") (drop 1 text) && isCometEnd (eqb (getD text 0 0) (code "A")) (drop 7 text)
 
 -- A minor planet, its number 1 to 61,999, or a comet.
 unfoldable pub provID : List ℕ → Value

@@ -1,4 +1,5 @@
 -- Numbers written in digits.
+use Prim.Native.Char.{code}
 use Prim.Native.Nat.{ℕ}
 use mathlib.Core.Bool.{Bool, not, _&&_}
 use mathlib.Core.List.{List}
@@ -18,7 +19,7 @@ isDigits text = ltb 0 (digits text) && isOnly Digit text
 
 -- The text does not start with 0.
 abbrev pub noLeadingZero : List ℕ → Bool
-noLeadingZero text = not (eqb (getD text 0 0) 48)
+noLeadingZero text = not (eqb (getD text 0 0) (code "0"))
 
 -- A number without leading zero, of 1 to `most` digits.
 unfoldable pub isCount : ℕ → List ℕ → Bool

@@ -1,4 +1,5 @@
 -- obsTime: `yyyy-mm-ddThh:mm:ss`, optionally a point and 1 to 6 digits, then `Z`.
+use Prim.Native.Char.{code}
 use Prim.Native.Nat.{ℕ, _+_, _-_, _*_, _^_}
 use mathlib.Core.Bool.{Bool, cond, _&&_, _||_}
 use mathlib.Core.List.{List}
@@ -19,7 +20,7 @@ isFraction text = leb 1 (digits text) && leb (digits text) 6 && same (drop (digi
 
 -- Z, or a point and a fraction.
 unfoldable pub isTimeEnd : List ℕ → Bool
-isTimeEnd text = same text (bytes "Z") || (eqb (getD text 0 0) 46 && isFraction (drop 1 text))
+isTimeEnd text = same text (bytes "Z") || (eqb (getD text 0 0) (code ".") && isFraction (drop 1 text))
 
 -- The text has the form of a time.
 unfoldable pub isTime : List ℕ → Bool

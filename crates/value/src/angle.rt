@@ -61,7 +61,7 @@ fn is_degrees(text: &[u8], most: usize) -> bool
 fn is_right_ascension(text: &[u8]) -> bool
     ensures { λ r. ⌜ r ≡ isRightAscension (now (text .entry)) ⌝ }
 {
-    is_degrees(text, 3) & ((digits(text) < 3) | (at(text, 0) < 52))
+    is_degrees(text, 3) & ((digits(text) < 3) | (at(text, 0) < b'4'))
 }
 
 // The digits with zeros put after them up to nine places.

@@ -81,7 +81,7 @@ pub(crate) fn places(text: &[u8]) -> usize
 fn is_pointed(text: &[u8]) -> bool
     ensures { λ r. ⌜ r ≡ isPointed (now (text .entry)) ⌝ }
 {
-    (at(text, 0) == 46) & is_digits(tail(text, 1))
+    (at(text, 0) == b'.') & is_digits(tail(text, 1))
 }
 
 // Whether a decimal without sign passes its width.

@@ -26,7 +26,7 @@ pub(crate) fn is_digits(text: &[u8]) -> bool
 pub(crate) fn no_leading_zero(text: &[u8]) -> bool
     ensures { λ r. ⌜ r ≡ noLeadingZero (now (text .entry)) ⌝ }
 {
-    !(at(text, 0) == 48)
+    !(at(text, 0) == b'0')
 }
 
 // Whether a text is a number without leading zero, of 1 to `most` digits.

@@ -39,7 +39,7 @@ fn is_time(text: &[u8]) -> bool
 fn is_time_end(text: &[u8]) -> bool
     ensures { λ r. ⌜ r ≡ isTimeEnd (now (text .entry)) ⌝ }
 {
-    same(text, b"Z") | ((at(text, 0) == 46) & is_fraction(tail(text, 1)))
+    same(text, b"Z") | ((at(text, 0) == b'.') & is_fraction(tail(text, 1)))
 }
 
 // Whether a text is one to six digits, then Z.

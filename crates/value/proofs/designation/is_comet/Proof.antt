@@ -7,53 +7,37 @@ use Rattle.value.proofs.designation.is_comet.Tie as tie
 at-requires : tie.Need-at-requires
 at-requires c κs = search needs
 
-tail-requires : tie.Need-tail-requires
-tail-requires c κs = search needs
-
-leading-requires : tie.Need-leading-requires
-leading-requires c κs = search needs
-
 is-comet-letter-requires : tie.Need-is-comet-letter-requires
 is-comet-letter-requires c κs = search needs
 
 slice-aggregate-starts-in : tie.Need-slice-aggregate-starts-in
 slice-aggregate-starts-in c = search needs
 
-tail-requires-2 : tie.Need-tail-requires-2
-tail-requires-2 c κs = search needs
+tail-requires : tie.Need-tail-requires
+tail-requires c κs = search needs
 
 starts-in-requires : tie.Need-starts-in-requires
 starts-in-requires c κs = search needs
 
-front-requires : tie.Need-front-requires
-front-requires c κs = search needs
+tail-requires-2 : tie.Need-tail-requires-2
+tail-requires-2 c κs = search needs
 
-is-capitals-requires : tie.Need-is-capitals-requires
-is-capitals-requires c κs = search needs
-
-tail-requires-3 : tie.Need-tail-requires-3
-tail-requires-3 c κs = search needs
-
-is-comet-number-requires : tie.Need-is-comet-number-requires
-is-comet-number-requires c κs = search needs
+is-comet-end-requires : tie.Need-is-comet-end-requires
+is-comet-end-requires c κs = search needs
 
 returns : tie.Need-returns
 unfolding isComet
-returns c = rw (c .is-comet-number .ensures, c .before .tail3 .ensures, c .before .before .is-capitals .ensures, c .before .before .before .front .ensures, c .before .before .before .before .starts-in .ensures, c .before .before .before .before .before .tail2 .ensures, c .before .before .before .before .before .before .before .is-comet-letter .ensures, c .before .before .before .before .before .before .before .before .leading .ensures, c .before .before .before .before .before .before .before .before .before .tail .ensures, c .before .before .before .before .before .before .before .before .before .before .at .ensures)
+returns c = rw (c .is-comet-end .ensures, c .before .tail2 .ensures, c .before .before .starts-in .ensures, c .before .before .before .tail .ensures, c .before .before .before .before .before .is-comet-letter .ensures, c .before .before .before .before .before .before .at .ensures)
 
 pub is-comet-spec : {M : Type 1} → statement M
 is-comet-spec =
     tie.close
     (tie.spec
     at-requires
-    tail-requires
-    leading-requires
     is-comet-letter-requires
     slice-aggregate-starts-in
-    tail-requires-2
+    tail-requires
     starts-in-requires
-    front-requires
-    is-capitals-requires
-    tail-requires-3
-    is-comet-number-requires
+    tail-requires-2
+    is-comet-end-requires
     returns)
