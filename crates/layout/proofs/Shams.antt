@@ -11,8 +11,9 @@ use Rattle.element.specs.Observation.{Observation}
 use Rattle.report.specs.Report.{isHash, Outcome, accepted, refused, read}
 use Rattle.layout.specs.Written.{blockText}
 use Rattle.layout.specs.Packed.{PackedIs}
-use Rattle.layout.specs.Specimen.{specimen, likeSpecimen, specimenObservation}
-use Rattle.layout.proofs.Computed.{reading, writing}
+use Rattle.report.specs.Specimen.{specimen, likeSpecimen, specimenObservation}
+use Rattle.report.proofs.Computed.{reading}
+use Rattle.layout.proofs.Computed.{writing}
 use Rattle.layout.proofs.ReadsBack.{empty-reads}
 use Rattle.layout.proofs.SpecimenPacks.{specimen-reads}
 

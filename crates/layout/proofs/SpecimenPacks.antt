@@ -11,8 +11,9 @@ use Rattle.cuts.specs.Block.{Row, blockBytes, allMore}
 use Rattle.layout.specs.Written.{written}
 use Rattle.layout.specs.Packed.{PackedIs}
 use Rattle.layout.specs.Cost.{asRow}
-use Rattle.layout.specs.Specimen.{specimen, specimenObservation}
-use Rattle.layout.proofs.Computed.{reading, writing}
+use Rattle.report.specs.Specimen.{specimen, specimenObservation}
+use Rattle.report.proofs.Computed.{reading}
+use Rattle.layout.proofs.Computed.{writing}
 use Rattle.layout.proofs.Packed.{packed}
 
 -- One row is cut in one way.

@@ -1,4 +1,3 @@
 pub mod Written
 pub mod Packed
 pub mod Cost
-pub mod Specimen

@@ -1,6 +1,9 @@
 pub mod AnswerLaws
 pub mod ColumnLaws
+pub mod Computed
 pub mod Join
-pub mod RowLaws
 pub mod LineSteps
 pub mod ReaderLaws
+pub mod RowLaws
+pub mod Shams
+pub mod Sums
