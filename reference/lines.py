@@ -1,0 +1,179 @@
+"""Cases on the lines of a report: version lines, column lines, the count of fields, odd but right layouts.
+
+Each report stands beside its answer, written by hand from document 01; the reference has to agree
+before a case is made.
+"""
+
+import ades
+from reports import COLUMNS, ROW, SPECIMEN, VERSION, names_of, to_check
+
+# Reports with one fault, or with several on one line that is a version or column line: refusal, line, place.
+REFUSED = [
+    # 2: the line has no LF.
+    (b"x", 2, 1, 0),
+    (b" ", 2, 1, 0),
+    (VERSION[:-1], 2, 1, 0),
+    (VERSION + COLUMNS[:-1], 2, 2, 0),
+    (VERSION + COLUMNS + ROW[:-1], 2, 3, 0),
+    (SPECIMEN + ROW + b"a", 2, 5, 0),
+    (SPECIMEN + SPECIMEN[:-1], 2, 6, 0),
+    # 3: a byte outside 0x20 to 0x7E.
+    (b"\x00\n", 3, 1, 0),
+    (b"\r\n", 3, 1, 0),
+    (b"# version=2022\r\n", 3, 1, 0),
+    (b"# version=2022\t\n", 3, 1, 0),
+    (b"\xef\xbb\xbf" + SPECIMEN, 3, 1, 0),
+    (VERSION + COLUMNS[:-1] + b"\r\n" + ROW, 3, 2, 0),
+    (VERSION + COLUMNS + ROW[:-1] + b"\x7f\n", 3, 3, 0),
+    (VERSION + COLUMNS + ROW[:-1] + b"\x80\n", 3, 3, 0),
+    (VERSION + COLUMNS + ROW[:-1] + b"\x1f\n", 3, 3, 0),
+    (VERSION + COLUMNS + ROW[:-1] + b"\xff\n", 3, 3, 0),
+    (VERSION + COLUMNS + ROW[:-1] + b"\x0b\n", 3, 3, 0),
+    (VERSION + COLUMNS + ROW + b"\x00\n", 3, 4, 0),
+    # 4: version line expected, or a `#` line that isn't one.
+    (b"\n", 4, 1, 0),
+    (b" \n", 4, 1, 0),
+    (COLUMNS + ROW, 4, 1, 0),
+    (b" " + SPECIMEN, 4, 1, 0),
+    (b"# version=2017\n" + COLUMNS + ROW, 4, 1, 0),
+    (b"# version=2022 \n" + COLUMNS + ROW, 4, 1, 0),
+    (b"#version=2022\n" + COLUMNS + ROW, 4, 1, 0),
+    (b"# version = 2022\n" + COLUMNS + ROW, 4, 1, 0),
+    (b"# Version=2022\n" + COLUMNS + ROW, 4, 1, 0),
+    (b"# version=202\n" + COLUMNS + ROW, 4, 1, 0),
+    (b"# version=20222\n" + COLUMNS + ROW, 4, 1, 0),
+    (b"\n" + SPECIMEN, 4, 1, 0),
+    (VERSION + b"#\n", 4, 2, 0),
+    (VERSION + b"# observatory\n" + COLUMNS + ROW, 4, 2, 0),
+    (VERSION + COLUMNS + b"#\n" + ROW, 4, 3, 0),
+    (SPECIMEN + b"# end\n", 4, 4, 0),
+    (SPECIMEN + b"#\n" + SPECIMEN, 4, 4, 0),
+    (SPECIMEN + b"# version=2022|\n", 4, 4, 0),
+    (VERSION + b"remarks|" + COLUMNS + b"#1|" + ROW, 4, 3, 0),
+    # 5: block without column line or data line.
+    (VERSION, 5, 2, 0),
+    (VERSION + COLUMNS, 5, 3, 0),
+    (VERSION + VERSION + COLUMNS + ROW, 5, 2, 0),
+    (VERSION + COLUMNS + VERSION + COLUMNS + ROW, 5, 3, 0),
+    (SPECIMEN + VERSION, 5, 5, 0),
+    (SPECIMEN + VERSION + COLUMNS, 5, 6, 0),
+    (SPECIMEN + VERSION + SPECIMEN, 5, 5, 0),
+    (SPECIMEN + VERSION + COLUMNS + SPECIMEN, 5, 6, 0),
+    # 6: unknown column name.
+    (VERSION + b"\n" + ROW, 6, 2, 1),
+    (VERSION + b"   \n" + ROW, 6, 2, 1),
+    (VERSION + b"|\n" + ROW, 6, 2, 1),
+    (VERSION + b"trkSub|\n" + ROW, 6, 2, 2),
+    (VERSION + b"|trkSub\n" + ROW, 6, 2, 1),
+    (VERSION + COLUMNS[:-1] + b"|\n" + ROW, 6, 2, 8),
+    (VERSION + b"trksub|mode\n" + ROW, 6, 2, 1),
+    (VERSION + b"TRKSUB|mode\n" + ROW, 6, 2, 1),
+    (VERSION + b"trkSub|mo de\n" + ROW, 6, 2, 2),
+    (VERSION + b"trkSub|mode|pos4\n" + ROW, 6, 2, 3),
+    (VERSION + b"pos1|pos2|pos3|pos\n" + ROW, 6, 2, 4),
+    (VERSION + b"ra|dec|rmsra\n" + ROW, 6, 2, 3),
+    (VERSION + b"r\n" + ROW, 6, 2, 1),
+    (VERSION + b"trkSubs\n" + ROW, 6, 2, 1),
+    (VERSION + b"remark|remarks\n" + ROW, 6, 2, 1),
+    (VERSION + b"obsid\n" + ROW, 6, 2, 1),
+    (VERSION + b"com|trkSub\n" + ROW, 6, 2, 1),
+    (VERSION + ROW, 6, 2, 1),
+    (VERSION + b"-\n" + ROW, 6, 2, 1),
+    (VERSION + b" #\n" + ROW, 6, 2, 1),
+    (VERSION + b" # version=2022\n" + COLUMNS + ROW, 6, 2, 1),
+    (SPECIMEN + VERSION + b"trkSub|xyz\n", 6, 5, 2),
+    # 7: column named twice; the place is the second mention.
+    (VERSION + b"ra|ra\n" + ROW, 7, 2, 2),
+    (VERSION + b"ra| ra \n" + ROW, 7, 2, 2),
+    (VERSION + b"trkSub|mode|stn|obsTime|ra|dec|astCat|trkSub\n" + ROW, 7, 2, 8),
+    (VERSION + b"|".join(names_of(ades.ELEMENTS)) + b"|permID\n" + ROW, 7, 2, 30),
+    (VERSION + b"|".join(names_of(ades.ELEMENTS)) + b"|remarks\n" + ROW, 7, 2, 30),
+    (SPECIMEN + VERSION + b"ra|dec|ra|dec\n" + ROW, 7, 5, 3),
+    # 6 and 7: the leftmost field decides.
+    (VERSION + b"ra|what|ra\n" + ROW, 6, 2, 2),
+    (VERSION + b"ra|ra|what\n" + ROW, 7, 2, 2),
+    (VERSION + b"what|what\n" + ROW, 6, 2, 1),
+    (VERSION + b"ra|dec|dec|ra\n" + ROW, 7, 2, 3),
+    (VERSION + b"ra|ra||\n" + ROW, 7, 2, 2),
+    (VERSION + b"||ra|ra\n" + ROW, 6, 2, 1),
+    # 2 before 3, 4, 5, 6, 7 on one line.
+    (b"\x00", 2, 1, 0),
+    (b"# version=2022\xff", 2, 1, 0),
+    (b"# version=2017", 2, 1, 0),
+    (VERSION + b"# version=2022", 2, 2, 0),
+    (VERSION + b"#", 2, 2, 0),
+    (VERSION + b"tr\x01kSub", 2, 2, 0),
+    (VERSION + b"what|ra", 2, 2, 0),
+    (VERSION + b"ra|ra", 2, 2, 0),
+    # 3 before 4, 5, 6, 7.
+    (b"# version=2017\x00\n" + COLUMNS + ROW, 3, 1, 0),
+    (VERSION + b"#\x00\n" + ROW, 3, 2, 0),
+    (VERSION + b"# version=2022\x0d\n" + COLUMNS + ROW, 3, 2, 0),
+    (VERSION + COLUMNS + b"# version=2022\x0d\n" + COLUMNS + ROW, 3, 3, 0),
+    (VERSION + b"what|\x00\n" + ROW, 3, 2, 0),
+    (VERSION + b"ra|ra|\x80\n" + ROW, 3, 2, 0),
+    # 4 before 5, 6, 7: a wrong `#` line is no column line and ends no block.
+    (VERSION + b"# version=2021\n" + COLUMNS + ROW, 4, 2, 0),
+    (VERSION + COLUMNS + b"# version=2022 \n" + COLUMNS + ROW, 4, 3, 0),
+    (VERSION + b"#what|ra\n" + ROW, 4, 2, 0),
+    (VERSION + b"#ra|ra\n" + ROW, 4, 2, 0),
+    (VERSION + b"#\n", 4, 2, 0),
+    # An empty or blank line where a data line is due.
+    (VERSION + COLUMNS + b"\n", 18, 3, 0),
+    (VERSION + COLUMNS + b"   \n", 18, 3, 0),
+    (SPECIMEN + b"\n", 18, 4, 0),
+    (SPECIMEN + b"\n" + SPECIMEN, 18, 4, 0),
+    (SPECIMEN + b" # version=2022\n", 18, 4, 0),
+    (VERSION + COLUMNS + ROW.replace(b"10.5", b"   "), 11, 3, 17),
+    (VERSION + COLUMNS + ROW.replace(b"a1", b" "), 11, 3, 1),
+    (VERSION + b"trkSub\n\n", 11, 3, 1),
+    (VERSION + b"remarks\n  \n", 11, 3, 1),
+    (VERSION + b"remarks\n #\n", 11, 3, 1),
+    (VERSION + b"trkSub\na1\n", 11, 3, 7),
+    # 18: field count differs from the columns.
+    (VERSION + COLUMNS + b"a1\n", 18, 3, 0),
+    (VERSION + COLUMNS + ROW[:-1] + b"|\n", 18, 3, 0),
+    (VERSION + COLUMNS + b"|" + ROW, 18, 3, 0),
+    (VERSION + COLUMNS + b"||||||\n", 11, 3, 1),
+    (VERSION + COLUMNS + b"|||||\n", 18, 3, 0),
+    (VERSION + COLUMNS + ROW[:-1] + b"|" * 64 + b"\n", 18, 3, 0),
+    (VERSION + COLUMNS + ROW[:-1] + b"|" * 256 + b"\n", 18, 3, 0),
+    (SPECIMEN + b"a|b|c\n", 18, 4, 0),
+]
+
+
+def turned(line):
+    """The line with its fields from last to first."""
+    return b"|".join(reversed(line[:-1].split(b"|"))) + b"\n"
+
+
+# Right reports: the number of observations.
+ACCEPTED = [
+    (b"", 0),
+    (SPECIMEN, 1),
+    (SPECIMEN + ROW, 2),
+    (SPECIMEN * 3, 3),
+    (SPECIMEN + ROW + SPECIMEN + ROW * 4, 7),
+    (VERSION + b" " + COLUMNS + ROW, 1),
+    (VERSION + COLUMNS[:-1] + b"   \n" + ROW, 1),
+    (VERSION + COLUMNS.replace(b"|", b"  |  ") + ROW, 1),
+    (VERSION + COLUMNS + ROW.replace(b"|", b"  |  "), 1),
+    (VERSION + COLUMNS + b"   " + ROW, 1),
+    (VERSION + COLUMNS + ROW[:-1] + b"     \n", 1),
+    (VERSION + b"remarks|" + COLUMNS + b" #1|" + ROW, 1),
+    (VERSION + b"remarks|" + COLUMNS + b"|" + ROW, 1),
+    (VERSION + b"remarks|" + COLUMNS + b"  |" + ROW, 1),
+    (VERSION + b"sys|" + COLUMNS + b"|" + ROW + b" |" + ROW, 2),
+    (VERSION + COLUMNS[:-1] + b"|permID\n" + ROW[:-1] + b"|\n" + b"|" + ROW[3:-1] + b"|1\n", 2),
+    (VERSION + turned(COLUMNS) + turned(ROW), 1),
+]
+
+
+def cases(_):
+    """The chance is not used: all these are written out."""
+    for report, *refusal in REFUSED:
+        assert ades.read(report) == ades.refused(*refusal), (report, refusal)
+        yield to_check(report)
+    for report, count in ACCEPTED:
+        assert ades.check(report) == ("accepted", count), report
+        yield to_check(report)

@@ -1,0 +1,252 @@
+"""Cases on packing. Each is checked first: the packed report reads as the same observations, no other
+layout that was tried is shorter, and up to nine rows every cutting was tried."""
+
+import ades
+from ades import ELEMENTS, ROW_LIMIT, TEXT_LIMIT
+from limits import FULL, filled
+from refusals import FAULTY_BLOCKS
+from reports import (COLUMNS, ROW, SPECIMEN, VERSION, block, random_layout, random_row, random_rows, random_shape, row,
+                     shuffled_columns, small_row, to_pack, whole_row)
+from sums import packs_well, run_rows
+
+LARGEST_ROOM = 70_000
+
+
+def rooms(chance, packed_length, count):
+    """Lengths of the lent output: exactly enough first, then one short, longer, none at all."""
+    other = [packed_length - 1, packed_length + 1, packed_length + chance.randint(2, 90), 0, packed_length // 2]
+    chance.shuffle(other)
+    return [room for room in [packed_length] + other if room >= 0][:count]
+
+
+def pack_cases(chance, report, count=1):
+    """The report packed into outputs of several lengths."""
+    observations = ades.read(report)[1]
+    packs_well(observations, chance, layouts=2)
+    packed = ades.written(observations, ades.shortest_cuts(observations))
+    for room in rooms(chance, len(packed), count):
+        yield to_pack(report, room, chance.randrange(256))
+
+
+def of_document(chance):
+    """The specimen, the empty report, and the sums of document 01."""
+    for room in (104, 103, 105, 0, 1, 65_536, LARGEST_ROOM):
+        yield to_pack(SPECIMEN, room, chance.randrange(256))
+    for room in (0, 1, 100):
+        yield to_pack(b"", room, 0x20)
+    for count in (52, 53, 54, 55):
+        yield from pack_cases(chance, block(run_rows(count)), 2)
+        yield from pack_cases(chance, block(run_rows(count)[::-1]))
+    yield from pack_cases(chance, block(run_rows(27) + run_rows(27)[::-1]))
+    yield from pack_cases(chance, SPECIMEN * 20, 2)
+
+
+def refused(chance):
+    """Reports that are refused, with room and without: no lent byte is changed."""
+    for number, _, _, text in FAULTY_BLOCKS:
+        assert ades.read(SPECIMEN + text)[1] == number
+        yield to_pack(SPECIMEN + text, chance.choice((0, 50, 300)), chance.randrange(256))
+    yield to_pack(SPECIMEN[:-1], 104, 0)
+    yield to_pack(SPECIMEN[:-1], 103, 0xFF)
+    yield to_pack(filled(SPECIMEN, TEXT_LIMIT + 1), 104, 7)
+    yield to_pack(FULL + SPECIMEN, LARGEST_ROOM, 7)
+    yield to_pack(b"\n", 0, 0)
+
+
+def layouts(chance):
+    """Columns in any order, padding, empty columns, and blocks of different columns joined by name."""
+    first = row(trkSub=b"a1", stn=b"W84", astCat=b"Gaia2")
+    second = row(trkSub=b"b2", stn=b"G96", astCat=b"UCAC4", mag=b"10.50", band=b"G")
+    for rows in ([first, second], [second, first], [first, second, first], [second] * 3):
+        for _ in range(2):
+            parts = [block([each], shuffled_columns(chance, [each], 2)) for each in rows]
+            yield from pack_cases(chance, b"".join(parts), 2)
+    reverse = list(ELEMENTS)[::-1]
+    yield from pack_cases(chance, block([whole_row()], reverse), 2)
+    yield from pack_cases(chance, block([whole_row(), row(), whole_row()], reverse, chance), 2)
+    yield from pack_cases(chance, block([row()], list(ELEMENTS)), 2)
+    yield from pack_cases(chance, filled(SPECIMEN, 2000), 2)
+    kept = row(ra=b"10.50", dec=b"+0.0", remarks=b"# version=2022", obsSubID=b"#", mag=b"+01.0", band=b"G")
+    yield from pack_cases(chance, block([kept, row()], reverse), 2)
+    yield from pack_cases(chance, VERSION + b" " + COLUMNS + b" " * 9 + ROW + SPECIMEN, 2)
+
+
+# ---- shapes that share few columns, so that a cut is worth its bytes
+
+NARROW = {4, 7, 8, 15, 17, 18, 22}
+LEFT = [1, 2, 3, 5, 6, 14, 16, 28, 29]
+RIGHT = [9, 10, 11, 12, 13, 19, 20, 23, 25]
+
+
+def far_shapes(chance):
+    """A narrow shape and two wide ones that share only the narrow one's columns."""
+    return NARROW, NARROW | set(chance.sample(LEFT, chance.randint(6, 9))), NARROW | set(RIGHT)
+
+
+def of_shape(shape):
+    """An observation of that shape with the values of the one that has all elements."""
+    return {element: whole_row()[element] for element in sorted(shape)}
+
+
+def two_kinds_in_turn(chance):
+    """Two kinds of rows one after the other, by ones, by twos and by fours."""
+    for shape in (NARROW | {1}, NARROW | {29}, NARROW | set(RIGHT), set(ELEMENTS)):
+        narrow, wide = of_shape(NARROW), of_shape(shape)
+        for rows in ([narrow, wide] * 5, [wide, narrow, narrow] * 4, [narrow] * 4 + [wide] * 4 + [narrow] * 4):
+            yield from pack_cases(chance, random_layout(chance, rows))
+
+
+def far_apart(chance, wanted):
+    """Runs of the three shapes, so that several blocks are shortest."""
+    for _ in range(wanted):
+        rows = []
+        while len(rows) < 7:
+            rows += random_rows(chance, chance.randint(1, 4), [chance.choice(far_shapes(chance))])
+        yield from pack_cases(chance, random_layout(chance, rows), chance.choice((1, 1, 2)))
+
+
+# ---- several shortest cuttings
+
+def block_overhead(shape):
+    """What a block of these columns costs before its rows."""
+    return 15 + sum(len(ELEMENTS[element][0]) + 1 for element in shape)
+
+
+def tied_rows(chance):
+    """A narrow shape, a wide one that holds it, and how many narrow rows before a wide one make one
+    block as long as two."""
+    while True:
+        narrow, more = random_shape(chance), random_shape(chance) | random_shape(chance)
+        wide = narrow | more
+        spare = len(wide) - len(narrow)
+        if spare and block_overhead(narrow) % spare == 0 and block_overhead(narrow) // spare <= 9:
+            return narrow, wide, block_overhead(narrow) // spare
+
+
+def shortest_count(rows):
+    """How many cuttings are shortest: from the last row back, the ways to reach the least."""
+    least, ways = [0], [1]
+    for first in reversed(range(len(rows))):
+        lengths = [ades.block_bytes(rows[first:end]) + rest for end, rest in enumerate(least, start=first + 1)]
+        least.insert(0, min(lengths))
+        ways.insert(0, sum(count for length, count in zip(lengths, ways) if length == least[0]))
+    return ways[0]
+
+
+def one_block_as_long_as_two(chance):
+    """Shapes of rows for which joining costs as much as cutting."""
+    narrow, wide, count = tied_rows(chance)
+    return chance.choice(([narrow] * count + [wide], [wide] + [narrow] * count,
+                          [narrow] * count + [wide] + [narrow] * count, [wide] + [narrow] * count + [wide]))
+
+
+def between_two_wide_ones(chance):
+    """Narrow rows that cost as much in the block before as in the block after."""
+    narrow, left, right = far_shapes(chance)
+    return [left] * chance.randint(3, 4) + [narrow] * chance.randint(1, 2) + [right] * chance.randint(3, 4)
+
+
+def ties(chance, shapes_by_chance, least_blocks, wanted):
+    """Of several shortest cuttings, the one whose first block has most rows."""
+    found = 0
+    while found < wanted:
+        shapes = shapes_by_chance(chance)
+        rows = [random_row(chance, shape) for shape in shapes]
+        if len(rows) <= 10 and shortest_count(rows) > 1 and len(ades.shortest_cuts(rows)) >= least_blocks:
+            found += 1
+            yield from pack_cases(chance, random_layout(chance, rows))
+
+
+def long_runs(chance, wanted):
+    """Up to forty rows in runs, three blocks or more, and every fourth time a tie."""
+    found = 0
+    while found < wanted:
+        rows = []
+        for _ in range(chance.randint(4, 8)):
+            shape = chance.choice((*far_shapes(chance), set(ELEMENTS)))
+            rows += [of_shape(shape)] * chance.randint(1, 9)
+        if len(rows) <= 40 and len(ades.shortest_cuts(rows)) >= 3 and (found % 4 or shortest_count(rows) > 1):
+            found += 1
+            yield from pack_cases(chance, random_layout(chance, rows))
+
+
+# ---- joiners that look no further than the next row or the next block
+
+def joined_row_by_row(rows):
+    """Each row goes into the block before it where that costs no more than a block of its own."""
+    cuts, first = [], 0
+    for index in range(1, len(rows) + 1):
+        if index < len(rows):
+            alone = ades.block_bytes(rows[first:index]) + ades.block_bytes(rows[index:index + 1])
+            if ades.block_bytes(rows[first:index + 1]) <= alone:
+                continue
+        cuts.append(index - first)
+        first = index
+    return cuts
+
+
+def joined_pair_by_pair(rows):
+    """Blocks of one row, and the best saving pair of neighbours joined again and again."""
+    blocks = [[each] for each in rows]
+    while len(blocks) > 1:
+        savings = [ades.block_bytes(left) + ades.block_bytes(right) - ades.block_bytes(left + right)
+                   for left, right in zip(blocks, blocks[1:])]
+        best = max(savings)
+        if best < 0:
+            break
+        at = savings.index(best)
+        blocks[at:at + 2] = [blocks[at] + blocks[at + 1]]
+    return [len(part) for part in blocks]
+
+
+def greedy_fails(chance, joiner, wanted):
+    """Reports on which the joiner's text is longer than the shortest."""
+    found = 0
+    while found < wanted:
+        shapes = [random_shape(chance), random_shape(chance) | random_shape(chance), random_shape(chance)]
+        rows = random_rows(chance, chance.randint(6, 12), shapes)
+        if len(ades.written(rows, joiner(rows))) > len(ades.written(rows, ades.shortest_cuts(rows))):
+            found += 1
+            yield from pack_cases(chance, random_layout(chance, rows))
+
+
+# ---- many rows, and mixes by chance
+
+def many_rows(chance):
+    """256 rows: all alike, two kinds in turn, runs of several kinds, a block for each row."""
+    narrow, wide = small_row(), small_row(mag=b"1", band=b"G", notes=b"K")
+    yield from pack_cases(chance, FULL)
+    yield from pack_cases(chance, block([narrow, wide] * (ROW_LIMIT // 2)))
+    shapes = [random_shape(chance) - {29} for _ in range(5)]
+    yield from pack_cases(chance, block(random_rows(chance, ROW_LIMIT, shapes)))
+    yield from pack_cases(chance, b"".join(block([each]) for each in [narrow, narrow, narrow, wide] * (ROW_LIMIT // 4)))
+    runs = [narrow] * 60 + [wide] * 3 + [narrow] * 21 + [wide] * 70 + [narrow] * 102
+    yield from pack_cases(chance, block(runs), 2)
+    yield from pack_cases(chance, filled(FULL, TEXT_LIMIT))
+
+
+def mixes(chance):
+    """One to twelve rows of a few shapes, laid out by chance."""
+    for _ in range(110):
+        shapes = [random_shape(chance) for _ in range(chance.choice((1, 2, 3, 5)))]
+        rows = random_rows(chance, chance.choice((1, 2, 3, 4, 5, 6, 7, 8, 9, 9, 10, 12)), shapes)
+        yield from pack_cases(chance, random_layout(chance, rows), chance.choice((1, 1, 1, 2)))
+    for _ in range(12):
+        rows = [random_row(chance, chance.choice((NARROW, set(ELEMENTS) - {29}))) for _ in range(chance.randint(2, 9))]
+        yield from pack_cases(chance, block(rows, shuffled_columns(chance, rows)))
+
+
+def cases(chance):
+    """All cases of this file."""
+    yield from of_document(chance)
+    yield from refused(chance)
+    yield from layouts(chance)
+    yield from two_kinds_in_turn(chance)
+    yield from far_apart(chance, 40)
+    yield from ties(chance, one_block_as_long_as_two, 1, 20)
+    yield from ties(chance, between_two_wide_ones, 2, 16)
+    yield from long_runs(chance, 16)
+    yield from greedy_fails(chance, joined_row_by_row, 15)
+    yield from greedy_fails(chance, joined_pair_by_pair, 10)
+    yield from many_rows(chance)
+    yield from mixes(chance)

@@ -1,0 +1,224 @@
+"""How the cases build reports: rows, blocks, layouts of any order and padding, and values by chance.
+
+A row is a dictionary from element number to value, as the reference reads it. `chance` is always a
+`random.Random` made from a fixed seed, so each run gives the same reports.
+"""
+
+from ades import ELEMENTS, LOCATION, NUMBERS, columns_of
+from values import ALPHANUMERICS, CAPITALS, DIGITS, days_in_month
+
+# The specimen's three lines.
+VERSION = b"# version=2022\n"
+COLUMNS = b"trkSub|mode|stn|obsTime|ra|dec|astCat\n"
+ROW = b"a1|CCD|W84|2024-03-01T04:05:06.5Z|10.5|-0.25|Gaia2\n"
+SPECIMEN = VERSION + COLUMNS + ROW
+
+# A case is a letter, two numbers and a report.
+
+
+def to_check(report):
+    """A case that checks the report."""
+    return ("C", 0, 0, report)
+
+
+def to_show(report, observation, element):
+    """A case that asks where a value lies."""
+    return ("S", observation, element, report)
+
+
+def to_value(report, observation, element):
+    """A case that asks what a value is worth."""
+    return ("V", observation, element, report)
+
+
+def to_pack(report, room, filling):
+    """A case that packs into so much room, filled with a byte before."""
+    return ("P", room, filling, report)
+
+
+# ---- rows and blocks
+
+def row(**changes):
+    """The specimen's observation with elements changed, added, or taken away by None."""
+    specimen = {"trkSub": b"a1", "mode": b"CCD", "stn": b"W84", "obsTime": b"2024-03-01T04:05:06.5Z",
+                "ra": b"10.5", "dec": b"-0.25", "astCat": b"Gaia2"}
+    specimen.update(changes)
+    return {NUMBERS[name.encode()]: value for name, value in specimen.items() if value is not None}
+
+
+PLACED = {"sys": b"WGS84", "ctr": b"399", "pos1": b"-110.79", "pos2": b"+32.4", "pos3": b"2510"}
+MEASURED = {"mag": b"20.1", "rmsMag": b"0.1", "band": b"G", "photCat": b"Gaia2", "photAp": b"3.5"}
+SURE = {"rmsRA": b"0.1", "rmsDec": b"0.2", "rmsCorr": b"-0.5"}
+
+
+def whole_row(**changes):
+    """An observation with all 29 elements present, with elements changed or taken away."""
+    rest = {"permID": b"123P-A", "provID": b"2016 AZ6", "artSat": b"1998-067A", "obsID": b"x_1",
+            "obsSubID": b"n 7", "prog": b"01", "rmsTime": b"0.5", "notes": b"K", "remarks": b"clear sky"}
+    return row(**{**rest, **PLACED, **MEASURED, **SURE, **changes})
+
+
+def small_row(**changes):
+    """An observation of few bytes."""
+    return row(**{"trkSub": b"a", "stn": b"abc", "obsTime": b"2024-03-01T04:05:06Z", "ra": b"0",
+                  "dec": b"0", "astCat": b"u", **changes})
+
+
+def line_of(fields):
+    """The fields as one line."""
+    return b"|".join(fields) + b"\n"
+
+
+def names_of(columns):
+    """The names of the columns."""
+    return [ELEMENTS[element][0] for element in columns]
+
+
+def padded(chance, fields):
+    """The fields with blanks around some of them."""
+    return [b" " * chance.choice((0, 0, 1, 3)) + field + b" " * chance.choice((0, 0, 1, 2)) for field in fields]
+
+
+def block(rows, columns=None, chance=None):
+    """One block. Columns default to those present in element order; with a chance, fields are padded.
+    A value that would make its line begin with `#` gets a blank before it."""
+    columns = columns or columns_of(rows)
+    table = [names_of(columns)] + [[each.get(element, b"") for element in columns] for each in rows]
+    if chance:
+        table = [padded(chance, fields) for fields in table]
+    lines = [line_of(fields) for fields in table]
+    return VERSION + b"".join(b" " + line if line[:1] == b"#" else line for line in lines)
+
+
+def shuffled_columns(chance, rows, spare=0):
+    """The columns present in any order, with some that are empty in every row."""
+    columns = columns_of(rows)
+    others = [element for element in ELEMENTS if element not in columns]
+    columns += chance.sample(others, min(spare, len(others)))
+    chance.shuffle(columns)
+    return columns
+
+
+def random_cuts(chance, count):
+    """The rows parted into blocks by chance."""
+    cuts = []
+    while count:
+        cuts.append(chance.randint(1, count))
+        count -= cuts[-1]
+    return cuts
+
+
+def random_layout(chance, rows):
+    """The same observations cut, ordered and padded by chance."""
+    text, first = b"", 0
+    for count in random_cuts(chance, len(rows)):
+        part = rows[first:first + count]
+        columns = shuffled_columns(chance, part, chance.choice((0, 0, 1, 3)))
+        text += block(part, columns, chance if chance.random() < 0.5 else None)
+        first += count
+    return text
+
+
+# ---- values and observations by chance
+
+def some(chance, allowed, least, most):
+    """So many bytes of those allowed, without a blank at either end."""
+    text = bytes(chance.choice(allowed) for _ in range(chance.randint(least, most)))
+    return text if text == text.strip(b" ") else text.replace(b" ", b"_")
+
+
+def random_number(chance, width):
+    """A decimal above zero of at most so many bytes."""
+    before = some(chance, DIGITS, 1, max(1, width - 3))
+    after = some(chance, DIGITS, 1, 2)
+    text = before + b"." + after if len(before) + 1 + len(after) <= width and chance.random() < 0.7 else before
+    return text if text.strip(b"0.") else b"1" + text[1:]
+
+
+def random_sign(chance):
+    """A sign, or more often none."""
+    return chance.choice((b"", b"", b"-", b"+"))
+
+
+def random_angle(chance, least, below):
+    """Whole degrees from the least to below the bound, mostly with places."""
+    text = b"%d" % chance.randint(least, below - 1)
+    return text + b"." + some(chance, DIGITS, 1, 9) if chance.random() < 0.8 else text
+
+
+def random_time(chance):
+    """A time in any year, or more often in ours."""
+    year, month = chance.choice((chance.randint(1, 9999), chance.randint(1990, 2030))), chance.randint(1, 12)
+    text = b"%04d-%02d-%02dT%02d:%02d:%02d" % (year, month, chance.randint(1, days_in_month(year, month)),
+                                              chance.randint(0, 23), chance.randint(0, 59), chance.randint(0, 59))
+    return text + (b"." + some(chance, DIGITS, 1, 6) if chance.random() < 0.5 else b"") + b"Z"
+
+
+def random_permanent(chance):
+    """A permID."""
+    number = b"%d" % chance.randint(1, 999_999)
+    return number + chance.choice((b"", b"P", b"D", b"P-" + some(chance, CAPITALS, 1, 2)))
+
+
+def random_provisional(chance):
+    """A provID of a minor planet or of a comet."""
+    if chance.random() < 0.5:
+        return b"%04d %s%s" % (chance.randint(1900, 2030), some(chance, b"ABCDEFGH", 2, 2),
+                               chance.choice((b"", b"%d" % chance.randint(1, 999))))
+    return b"%s/%04d %s%d" % (chance.choice((b"C", b"P", b"D", b"X", b"A")), chance.randint(1700, 2030),
+                              some(chance, CAPITALS, 1, 2), chance.randint(1, 999))
+
+
+def random_value(chance, element):
+    """A right value of the element."""
+    _, form, *details = ELEMENTS[element]
+    if form.__name__ == "alphanumerics":
+        return some(chance, ALPHANUMERICS, details[0], details[1])
+    if form.__name__ == "word":
+        return chance.choice(details[0].split())
+    if form.__name__ == "positive_decimal":
+        return random_number(chance, details[0])
+    if form.__name__ == "signed_decimal":
+        return random_sign(chance) + random_number(chance, details[0])
+    return {
+        1: lambda: random_permanent(chance),
+        2: lambda: random_provisional(chance),
+        3: lambda: b"%04d-%03d%s" % (chance.randint(1957, 2030), chance.randint(1, 200), some(chance, CAPITALS, 1, 3)),
+        6: lambda: some(chance, range(0x21, 0x7C), 1, 25),
+        10: lambda: b"%d" % chance.choice((0, 399, 301, -31, chance.randint(-999, 9999))),
+        15: lambda: random_time(chance),
+        17: lambda: random_angle(chance, 0, 360),
+        18: lambda: random_sign(chance) + random_angle(chance, 0, 90),
+        21: lambda: random_sign(chance) + b"0." + some(chance, DIGITS, 1, 11),
+        29: lambda: some(chance, ALPHANUMERICS, 1, chance.choice((5, 40, 300))),
+    }[element]()
+
+
+def random_shape(chance):
+    """A set of elements that one observation may hold."""
+    shape = {7, 8, 15, 17, 18, 22} | set(chance.sample((1, 2, 3, 4), chance.choice((1, 1, 2))))
+    if chance.random() < 0.3:
+        shape |= set(LOCATION)
+    if chance.random() < 0.5:
+        shape |= {23, 25} | set(chance.sample((24, 26, 27), chance.randint(0, 3)))
+    if chance.random() < 0.4:
+        shape |= {19, 20} | set(chance.sample((21,), chance.randint(0, 1)))
+    return shape | set(chance.sample((5, 6, 14, 16, 28, 29), chance.choice((0, 0, 1, 2, 4))))
+
+
+def random_row(chance, shape):
+    """An observation of that shape."""
+    values = {element: random_value(chance, element) for element in sorted(shape)}
+    if values.get(9) == b"WGS84":
+        values[10] = b"399"
+    return values
+
+
+def random_rows(chance, count, shapes):
+    """So many observations, each of one of the shapes, which tend to come in runs."""
+    rows, shape = [], chance.choice(shapes)
+    for _ in range(count):
+        if chance.random() < 0.6:
+            shape = chance.choice(shapes)
+        rows.append(random_row(chance, shape))
+    return rows
