@@ -2,6 +2,7 @@
 use crate::state::Need;
 use crate::state::State;
 use crate::state::Taken;
+use element::ELEMENTS;
 use refusal::Kind;
 ghost use mathlib.Core.Path.{_≡_};
 ghost use Prim.Native.Nat.{_≤_};
@@ -22,7 +23,7 @@ pub(crate) fn name_columns(line: &[u8], columns: &mut [u8]) -> Taken
         let start = field.start;
         let end = field.start + field.length;
         let e = element::name::index(&line[start..end]);
-        if e >= 29 {
+        if e >= ELEMENTS {
             return Taken::Refused(Kind::UnknownColumn, k + 1);
         }
         let column = e as u8;

@@ -1,5 +1,7 @@
 // A data line: its fields one by one, and what its observation must hold.
+use crate::ROW_LIMIT;
 use crate::state::Taken;
+use element::ELEMENTS;
 use element::form::Check;
 use refusal::Fault;
 use refusal::Kind;
@@ -41,13 +43,13 @@ pub(crate) fn data_line(
     requires { ⌜ RowAsks (now report) (now columns) (lent (now sets) (now starts) (now lengths)) from till fields slot ⌝ }
     ensures { λ r. ⌜ RowIs (now (report .entry)) (now (columns .entry)) (lent (now (sets .entry)) (now (starts .entry)) (now (lengths .entry))) (lent (now (sets .exit)) (now (starts .exit)) (now (lengths .exit))) from till slot k r ⌝ }
 {
-    if k >= 256 {
+    if k >= ROW_LIMIT {
         return Taken::Refused(Kind::TooManyRows, 0);
     }
     if fields != columns.len() {
         return Taken::Refused(Kind::FieldCountDiffers, 0);
     }
-    let base = slot * 29;
+    let base = slot * ELEMENTS;
     let taken = take_fields(report, from, till, columns, starts, lengths, base);
     match taken {
         Fields::Wrong(kind, place) => {
