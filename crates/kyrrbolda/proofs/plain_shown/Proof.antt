@@ -1,0 +1,38 @@
+use mathlib.Core.Path.{sym, ap}
+use Rattle.kyrrbolda.specs.Plain.{plainShown}
+use borrow.Author.Needs.{needs}
+use Rattle.kyrrbolda.proofs.plain_shown.Statement.{statement}
+use Rattle.kyrrbolda.proofs.plain_shown.Tie as tie
+
+enum-known-answer : tie.Need-enum-known-answer
+enum-known-answer c = search needs
+
+enum-told : tie.Need-enum-told
+enum-told c = search needs
+
+enum-known-answer-2 : tie.Need-enum-known-answer-2
+enum-known-answer-2 c = search needs
+
+number-requires : tie.Need-number-requires
+number-requires c κs = search needs
+
+returns : tie.Need-returns
+returns c = sym (ap plainShown (c .before .answer .given .1))
+
+returns-2 : tie.Need-returns-2
+returns-2 c = sym (ap plainShown (c .enum-told .given .1))
+
+returns-3 : tie.Need-returns-3
+returns-3 c = rw (c .number .ensures) (sym (ap plainShown (c .before .before .answer2 .given .1)))
+
+pub plain-shown-spec : {M : Type 1} → statement M
+plain-shown-spec =
+    tie.close
+    (tie.spec
+    enum-known-answer
+    enum-told
+    enum-known-answer-2
+    number-requires
+    returns
+    returns-2
+    returns-3)

@@ -1,0 +1,44 @@
+use borrow.Author.Needs.{needs}
+use Rattle.vectors.proofs.run_all.Statement.{statement}
+use Rattle.vectors.proofs.run_all.Tie as tie
+
+abbrev Inv-loop : tie.InvT-loop
+Inv-loop file left₀ left = Unit {0}
+
+abbrev μ-loop : tie.MeasureT-loop
+μ-loop file left₀ left = left
+
+loop-holds : tie.Need-loop-holds Inv-loop μ-loop
+loop-holds c = search needs
+
+run-next-requires : tie.Need-run-next-requires Inv-loop μ-loop
+run-next-requires c κs = search needs
+
+sub-left : tie.Need-sub-left Inv-loop μ-loop
+sub-left c = search needs
+
+loop-less : tie.Need-loop-less Inv-loop μ-loop
+loop-less c = search needs
+
+loop-again : tie.Need-loop-again Inv-loop μ-loop
+loop-again c = search needs
+
+returns : tie.Need-returns Inv-loop μ-loop
+returns c = search needs
+
+returns-2 : tie.Need-returns-2 Inv-loop μ-loop
+returns-2 c = search needs
+
+pub run-all-spec : {M : Type 1} → statement M
+run-all-spec =
+    tie.close
+    (tie.spec
+    Inv-loop
+    μ-loop
+    loop-holds
+    run-next-requires
+    sub-left
+    loop-less
+    loop-again
+    returns
+    returns-2)
