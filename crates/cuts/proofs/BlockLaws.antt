@@ -2,14 +2,15 @@
 use mathlib.Core.Path.{_≡_, refl, sym, ap, _∙_}
 use Prim.Native.Nat.{ℕ, _≤_, zero, suc, _<_, _+_, _*_, _/_, _%_}
 use native.Mathlib.Omega.{arith}
-use lib.ListN.{length, drop, getD}
+use lib.ListN.{length, drop}
 use lib.Count.{ones}
 use native.Mathlib.Nat.{mul-le-mul}
 use mir.Syntax.{w64}
 use mir.Val.{Fits}
-use Rattle.cuts.specs.Block.{rowLimit, textLimit, nameLengths, lengthIf, nameBytes, bytesOf, elements}
+use Rattle.element.specs.Table.{elements, nameOf}
+use Rattle.cuts.specs.Block.{rowLimit, textLimit, nameLengths, lengthIf, nameBytes, bytesOf}
 use Rattle.cuts.specs.Look.{blockLimit}
-use Rattle.cuts.proofs.SumLaws.{names-step, names-end, name-lengths-length, names-low}
+use Rattle.cuts.proofs.SumLaws.{names-step, names-end, name-lengths-length, name-length, names-low}
 
 -- A length where the bit is not set, and where it is.
 pub length-unset : (bit length : ℕ) → bit ≡ 0 → 0 ≡ lengthIf bit length
@@ -22,14 +23,20 @@ length-bit (suc bit) length h = refl
 pub ruleset length-needs = (length-unset, length-bit)
 
 -- One name more: l is its length, and p that length where the element is in the set.
-pub names-more : (set sum e left l p : ℕ) → e < elements → sum + nameBytes (drop e nameLengths) left ≡ nameBytes nameLengths set → l ≡ getD nameLengths e 0
-    → p ≡ lengthIf (left % 2) l → sum + p + nameBytes (drop (e + 1) nameLengths) (left / 2) ≡ nameBytes nameLengths set
-names-more set sum e left l p h s d q =
-    omega (arith, names-step nameLengths e left (omega (arith, name-lengths-length)), ap (lengthIf (left % 2)) d)
+module _ (set sum e left l p : ℕ) (h : e < elements) (s : sum + nameBytes (drop e nameLengths) left ≡ nameBytes nameLengths set)
+    (d : l ≡ length (nameOf e)) (q : p ≡ lengthIf (left % 2) l) where
+  pub names-more : sum + p + nameBytes (drop (e + 1) nameLengths) (left / 2) ≡ nameBytes nameLengths set
+  names-more =
+      omega (arith, names-step nameLengths e left (omega (arith, name-lengths-length)), ap (lengthIf (left % 2)) (d ∙ sym (name-length e)))
+
+  pub names-fit : Fits w64 (sum + p)
+  names-fit = record { fits = omega (arith, names-more, names-low set) }
 
 -- All names are passed.
 pub names-all : (set sum e left : ℕ) → elements ≤ e → sum + nameBytes (drop e nameLengths) left ≡ nameBytes nameLengths set → sum ≡ nameBytes nameLengths set
 names-all set sum e left h s = omega (arith, names-end nameLengths e left (omega (arith, name-lengths-length)))
+
+pub ruleset names-needs = (names-more, names-fit, names-all)
 
 -- The parts of a block's bytes, n being the number of columns.
 pub head-fits : (columns names : ℕ) → names ≡ nameBytes nameLengths columns → Fits w64 (15 + names)

@@ -3,13 +3,14 @@ use mathlib.Core.Path.{_≡_, refl, ap}
 use mathlib.Core.List.{List, [], _∷_, _++_}
 use Prim.Native.Nat.{ℕ, _≤_, _<_, zero, suc, _+_, _/_, _%_, _-_}
 use native.Mathlib.Omega.{arith}
-use lib.ListN.{length, take, drop, getD, length-drop, drop-of-length-le, set, take-append-drop}
+use lib.ListN.{length, take, drop, getD, length-drop, drop-of-length-le, set, take-append-drop, List·getD-map}
 use lib.Bits.{bitOr}
 use native.Mathlib.Numerals.{add-one}
 use lib.Seq.{drop-cons, take-suc, take-all}
 use native.Mathlib.Nat.{le-of-eq}
+use Rattle.element.specs.Table.{elements, names, nameOf}
 use Rattle.cuts.specs.Runs.{runsOf}
-use Rattle.cuts.specs.Block.{Row, row, total, union, valueBytes, rowCount, nameLengths, lengthIf, nameBytes, bytesOf, blockBytes, elements}
+use Rattle.cuts.specs.Block.{Row, row, total, union, valueBytes, rowCount, nameLengths, lengthIf, nameBytes, bytesOf, blockBytes}
 
 -- ---- numbers
 
@@ -72,6 +73,11 @@ names-end ls e m h = rw (drop-of-length-le ls)
 pub name-lengths-length : length nameLengths ≡ elements
 unfolding nameLengths
 name-lengths-length = refl
+
+-- The length at each place is that of the element's name.
+pub name-length : (e : ℕ) → getD nameLengths e 0 ≡ length (nameOf e)
+unfolding nameLengths
+name-length e = List·getD-map length names e []
 
 length-if-le : (bit l : ℕ) → lengthIf bit l ≤ l
 length-if-le zero l = omega arith

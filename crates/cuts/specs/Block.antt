@@ -1,20 +1,17 @@
 -- What a block of rows costs in bytes: "15, plus name lengths, plus one a column, plus values, plus rows times columns".
 -- A set of elements is a number whose bit e stands for element number e + 1.
-use mathlib.Core.List.{List, [], _∷_}
+use mathlib.Core.List.{List, [], _∷_, map}
 use Prim.Native.Nat.{ℕ, zero, suc, _+_, _*_, _/_, _%_}
 use lib.Bits.{bitOr}
 use lib.Count.{ones}
 use lib.ListN.{length}
+use Rattle.element.specs.Table.{names}
 
--- How many elements there are.
-abbrev pub elements : ℕ
-elements = 29
-
--- The most rows that are cut.
+-- The most rows that the search can cut. This is a bound of its own, not the reader's limit on data lines.
 abbrev pub rowLimit : ℕ
 rowLimit = 1024
 
--- The most bytes that their values have together.
+-- The most bytes that the values of these rows may have together.
 abbrev pub textLimit : ℕ
 textLimit = 65536
 
@@ -57,8 +54,7 @@ rowCount (r ∷ rows) = r .count + rowCount rows
 
 -- The lengths of the elements' names, in element order.
 unfoldable pub nameLengths : List ℕ
-nameLengths =
-    6 ∷ 6 ∷ 6 ∷ 6 ∷ 5 ∷ 8 ∷ 4 ∷ 3 ∷ 3 ∷ 3 ∷ 4 ∷ 4 ∷ 4 ∷ 4 ∷ 7 ∷ 7 ∷ 2 ∷ 3 ∷ 5 ∷ 6 ∷ 7 ∷ 6 ∷ 3 ∷ 6 ∷ 4 ∷ 7 ∷ 6 ∷ 5 ∷ 7 ∷ []
+nameLengths = map length names
 
 -- A length where the bit is set, else 0.
 abbrev pub lengthIf : ℕ → ℕ → ℕ

@@ -1,45 +1,11 @@
 // The bytes of a block.
+use element::ELEMENTS;
+use element::name::name_length;
 ghost use mathlib.Core.Path.{_≡_};
 ghost use Prim.Native.Nat.{_≤_, _<_};
 ghost use lib.Count.{ones};
 ghost use Rattle.cuts.specs.Block.{rowLimit, textLimit, nameLengths, lengthIf, nameBytes, bytesOf};
 ghost use Rattle.cuts.specs.Look.{blockLimit};
-
-// How many elements there are.
-const ELEMENTS: usize = 29;
-
-// The lengths of the elements' names, in element order.
-const NAME_LENGTHS: [u8; ELEMENTS] = [
-    6,
-    6,
-    6,
-    6,
-    5,
-    8,
-    4,
-    3,
-    3,
-    3,
-    4,
-    4,
-    4,
-    4,
-    7,
-    7,
-    2,
-    3,
-    5,
-    6,
-    7,
-    6,
-    3,
-    6,
-    4,
-    7,
-    6,
-    5,
-    7,
-];
 
 // The bytes of a block of so many rows: its columns, the bytes of their names and the bytes of its values.
 pub(crate) fn block_bytes(columns: u64, names: u64, values: u64, rows: u64) -> u64
@@ -77,7 +43,7 @@ pub(crate) fn names_of(set: u64) -> u64
     let mut sum: u64 = 0;
     let mut e: usize = 0;
     while e < ELEMENTS {
-        sum += length_if(left % 2, wide_length(NAME_LENGTHS[e]));
+        sum += length_if(left % 2, name_length(e) as u64);
         left = left / 2;
         e += 1;
     }
@@ -86,14 +52,7 @@ pub(crate) fn names_of(set: u64) -> u64
 
 // A name's length where the element's bit is set, else 0.
 fn length_if(bit: u64, length: u64) -> u64
-    ensures { λ r. ⌜ (r ≡ lengthIf bit length) × (r ≤ length) ⌝ }
+    ensures { λ r. ⌜ r ≡ lengthIf bit length ⌝ }
 {
     if bit == 0 { 0 } else { length }
-}
-
-// A name's length as a wider number.
-fn wide_length(length: u8) -> u64
-    ensures { λ r. ⌜ (r ≡ length) × (r < 256) ⌝ }
-{
-    length as u64
 }

@@ -11,10 +11,10 @@ mod cut_list;
 mod runs;
 mod search;
 
-// The most rows that are cut.
+// The most rows that the search can cut. This is a bound of its own, not the reader's limit on data lines.
 const ROW_LIMIT: usize = 1024;
 
-// The most bytes that their values have together.
+// The most bytes that the values of these rows may have together.
 const TEXT_LIMIT: u64 = 65536;
 
 // A cutting: how many blocks it has, and the bytes of them all.

@@ -10,13 +10,14 @@ use lib.Arith.{digits-mod}
 use lib.Bits.{bitOr, or-shr, or-step, or-lt}
 use lib.Count.{ones, ones-step}
 use lib.Dec.{eqb}
-use lib.ListN.{length, take, drop, getD, length-append, length-map, List·getD-map}
+use lib.ListN.{length, take, drop, getD, length-append, length-map}
 use Rattle.text.proofs.Bools.{bools}
-use Rattle.element.specs.Table.{elements, names, nameOf}
+use Rattle.element.specs.Table.{elements, nameOf}
 use Rattle.element.specs.Observation.{Observation, isPresent, bit, setOf}
 use Rattle.cuts.specs.Cuts.{cost}
 use Rattle.cuts.specs.Block.{union, valueBytes, rowCount, nameLengths, lengthIf, nameBytes, bytesOf, blockBytes}
 use Rattle.cuts.proofs.CutLaws.{cost-map}
+use Rattle.cuts.proofs.SumLaws.{name-lengths-length, name-length}
 use Rattle.layout.specs.Written.{columnOrder, isAnywhere, passing, columnsOf, barred, lineOf, namesAt, valuesAt, dataLines, blockText, written, Valid}
 use Rattle.layout.specs.Cost.{sizeOf, asRow}
 use Rattle.element.proofs.Sets.{has-set, set-below}
@@ -124,20 +125,12 @@ columns-ones rows r =
     ∙ (same-weight (λ e. cond (isAnywhere rows e) 1 0) (λ e. setFor rows / 2 ^ e % 2) (upward 0 elements) (λ e. sym (set-bit rows e))
     ∙ sym (ones-bits elements (setFor rows) (union-below 0 rows (omega arith) r))))
 
--- The name lengths that the search has are those of the names.
-lengths-are : nameLengths ≡ map length names
-unfolding nameLengths
-lengths-are = refl
-
-name-length : (e : ℕ) → getD nameLengths e 0 ≡ length (nameOf e)
-name-length e = ap (λ (x : List ℕ). getD x e 0) lengths-are ∙ List·getD-map length names e []
-
 -- The name lengths of the columns are those of the set.
 pub columns-names : (rows : List Observation) → weigh (λ e. length (nameOf e)) (columnsOf rows) ≡ nameBytes nameLengths (setFor rows)
 columns-names rows =
     columns-weigh rows (λ e. length (nameOf e))
     ∙ (same-weight (λ e. cond (isAnywhere rows e) (length (nameOf e)) 0) (λ e. lengthIf (setFor rows / 2 ^ e % 2) (getD nameLengths e 0)) (upward 0 elements) at
-    ∙ (ap (λ (n : ℕ). weigh (λ e. lengthIf (setFor rows / 2 ^ e % 2) (getD nameLengths e 0)) (upward 0 n)) (sym lengths-many) ∙ sym (names-bits nameLengths (setFor rows))))
+    ∙ (ap (λ (n : ℕ). weigh (λ e. lengthIf (setFor rows / 2 ^ e % 2) (getD nameLengths e 0)) (upward 0 n)) (sym name-lengths-length) ∙ sym (names-bits nameLengths (setFor rows))))
   where
     named : (b : Bool) (l : ℕ) → cond b l 0 ≡ lengthIf (bit b) l
     named true l = refl
@@ -145,9 +138,6 @@ columns-names rows =
 
     at : (e : ℕ) → cond (isAnywhere rows e) (length (nameOf e)) 0 ≡ lengthIf (setFor rows / 2 ^ e % 2) (getD nameLengths e 0)
     at e = rw (set-bit rows e, name-length e) (named (isAnywhere rows e) (length (nameOf e)))
-
-    lengths-many : length nameLengths ≡ elements
-    lengths-many = ap (λ (x : List ℕ). length x) lengths-are
 
 -- Values and data lines.
 
