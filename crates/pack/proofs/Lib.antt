@@ -1,0 +1,9 @@
+pub mod WritingLaws
+pub mod FieldLaws
+pub mod IndexLaws
+pub mod ColumnLaws
+pub mod BlockLaws
+pub mod SizeLaws
+pub mod PlanLaws
+pub mod RowCounts
+pub mod PromiseLaws
