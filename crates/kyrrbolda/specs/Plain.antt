@@ -11,6 +11,12 @@ use Rattle.report.specs.declared.answer.Valued.the-variants as Valued
 use Rattle.kyrrbolda.specs.declared.KyrrChecked.{KyrrChecked}
 use Rattle.kyrrbolda.specs.declared.KyrrShown.{KyrrShown}
 use Rattle.kyrrbolda.specs.declared.KyrrValued.{KyrrValued}
+use mathlib.Core.List.{List}
+use mathlib.Core.Path.{_≡_}
+use Rattle.pack.specs.Promise.{Promised}
+use Rattle.pack.specs.declared.Packed.{Packed}
+use Rattle.pack.specs.declared.Packed.the-variants as Packed
+use Rattle.kyrrbolda.specs.declared.KyrrPacked.{KyrrPacked}
 
 -- The answer of a check.
 abbrev pub plainChecked : Checked → KyrrChecked
@@ -36,3 +42,14 @@ plainValued (Valued.Decimal n places) = valuedAs 3 n places
 plainValued (Valued.Time day microseconds) = valuedAs 4 day microseconds
 plainValued (Valued.Angle units) = valuedAs 5 units 0
 plainValued (Valued.Refused x) = record { refused = numberOf (x .kind); line = x .line; place = x .place; kind = 0; whole = pos 0; part = 0 }
+
+-- The answer of packing.
+abbrev pub plainPacked : Packed → KyrrPacked
+plainPacked (Packed.Length n) = record { refused = 0; line = 0; place = 0; length = n }
+plainPacked (Packed.Refused x) = record { refused = numberOf (x .kind); line = x .line; place = x .place; length = 0 }
+
+-- What packing promises: the entry's promise of the output before and after, with its answer as a plain struct.
+pub record PackedPlainly (report before after : List ℕ) (answer : KyrrPacked) : Type 0 where
+  pub entry : Packed
+  pub promised : Promised report before after entry
+  pub is : answer ≡ plainPacked entry
