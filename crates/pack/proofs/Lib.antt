@@ -7,3 +7,5 @@ pub mod SizeLaws
 pub mod PlanLaws
 pub mod RowCounts
 pub mod PromiseLaws
+pub mod Unique
+pub mod Settled
