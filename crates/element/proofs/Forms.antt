@@ -1,11 +1,11 @@
 -- Laws of the faults of values, and which elements have a value.
-use Prim.Native.Nat.{ℕ, zero, suc, _+_, _<_}
+use Prim.Native.Nat.{ℕ, zero, suc, _+_, _<_, _≤_}
 use mathlib.Core.Path.{_≡_, refl, sym, ap, _∙_}
 use mathlib.Core.Bool.{Bool, true, false, not, _||_}
 use mathlib.Core.List.{List, [], _∷_}
 use native.Mathlib.Omega.{arith}
 use lib.Dec.{T, eqb, eqb·zero-suc}
-use lib.ListN.{length, getD}
+use lib.ListN.{length, getD, List·getD-eq-default}
 use Rattle.text.specs.Class.{leading, isOnly}
 use Rattle.text.specs.Part.{starts}
 use Rattle.text.proofs.Table.{below}
@@ -14,7 +14,8 @@ use Rattle.value.specs.Characters.{alphanumeric}
 use Rattle.value.specs.Designation.{isNumberedComet, permID, isMinorPlanet, isComet, provID, artSat}
 use Rattle.value.specs.Numeral.{isDigits, isCount}
 use Rattle.element.specs.Form.{valueOf, checkOf, faultOf, hasValue}
-use Rattle.element.specs.Table.{elements}
+use Rattle.element.specs.Table.{elements, forms, formOf}
+use Rattle.element.specs.declared.form.Form.the-variants.{Unknown}
 use Rattle.element.specs.declared.form.Check.the-variants.{Fine, Bad}
 
 -- An absent element has no fault.
@@ -49,6 +50,20 @@ unhashed index h (b ∷ text) fine e =
     let bad : Fine ≡ Bad WrongForm = sym fine ∙ ap (λ (n : ℕ). faultOf index (n ∷ text)) e ∙ hashed index h text in
     let z : _≡_ {A = ℕ} 0 1 = cc in
     omega arith
+
+-- The index is none of the first numbers.
+abbrev pub Avoids : ℕ → ℕ → Type 0
+Avoids index zero = Unit
+Avoids index (suc n) = Avoids index n × (index ≡ n → ⊥)
+
+-- An index that is none of the first n numbers is n or more.
+avoids-past : (index n : ℕ) → Avoids index n → n ≤ index
+avoids-past index zero a = omega arith
+avoids-past index (suc n) a = omega (arith, avoids-past index n (a .0), a .1)
+
+-- Past the elements there is no form.
+pub form-past : (index : ℕ) → Avoids index elements → Unknown ≡ formOf index
+form-past index a = sym (List·getD-eq-default forms Unknown {n = index} (avoids-past index elements a))
 
 -- The numbers of the elements with a value.
 abbrev pub valued : List ℕ

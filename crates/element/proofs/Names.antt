@@ -35,6 +35,15 @@ size-test index = eqb (getD starts (index + 1) 0 - getD starts index 0) (length 
 order-test : ℕ → Bool
 order-test index = leb (getD starts index 0) (getD starts (index + 1) 0)
 
+-- The start is a byte.
+start-test : ℕ → Bool
+start-test place = ltb (getD starts place 0) 256
+
+-- Every start is a byte.
+pub start-small : (place : ℕ) → place < 30 → getD starts place 0 < 256
+unfolding start-test
+start-small place h = ltb-true _ _ (T-true _ (below start-test 30 tt place h))
+
 -- The part is the name, it is as long as the name, and the starts are in order.
 module _ (index : ℕ) (h : index < elements) where
   pub cut-is : cut index ≡ nameOf index

@@ -15,7 +15,7 @@ const NAMES: [u8; 147] =
     *b"permIDprovIDartSattrkSubobsIDobsSubIDmodestnsysctrpos1pos2pos3progobsTimermsTimeradecrmsRArmsDecrmsCorrastCatmagrmsMagbandphotCatphotApnotesremarks";
 
 // Where each name starts among all of them, and where the last one ends.
-const STARTS: [usize; ELEMENTS + 1] = [
+const STARTS: [u8; ELEMENTS + 1] = [
     0,
     6,
     12,
@@ -76,7 +76,7 @@ pub fn name_length(index: usize) -> usize
 {
     if index < ELEMENTS {
         let next = index + 1;
-        STARTS[next] - STARTS[index]
+        STARTS[next] as usize - STARTS[index] as usize
     } else {
         0
     }
@@ -103,7 +103,7 @@ fn name_in(all: &[u8], index: usize) -> &[u8]
     ensures { λ r. ⌜ now r ≡ nameOf index ⌝ }
 {
     if index < ELEMENTS {
-        front(tail(all, STARTS[index]), name_length(index))
+        front(tail(all, STARTS[index] as usize), name_length(index))
     } else {
         &all[..0]
     }

@@ -4,13 +4,13 @@ use mathlib.Core.Path.{_≡_, refl, ap, sym, _∙_}
 use mathlib.Core.List.{List, [], _∷_, _++_}
 use mathlib.Core.Bool.{Bool, true, false, cond, _&&_}
 use lib.ListN.{length, take, drop, getD, drop-of-length-le, length-drop, length-take}
-use lib.Dec.{eqb}
+use lib.Dec.{eqb, leb}
 use lib.Seq.{take-all, take-nil, take-take, drop-drop, drop-cons, take-suc, take-length}
-use borrow.Author.Tests.{eq-eqb, ne-eqb}
+use borrow.Author.Tests.{eq-eqb, ne-eqb, leb-true, le-leb}
 use native.Mathlib.Numerals.{add-one}
 use native.Mathlib.Omega.{arith}
-use native.Mathlib.Nat.{sub-zero, zero-sub, suc-sub-suc}
-use Rattle.text.proofs.Bools.{bools}
+use native.Mathlib.Nat.{add-zero, sub-zero, zero-sub, suc-sub-suc}
+use Rattle.text.proofs.Bools.{bools, both}
 use Rattle.text.specs.Lines.{isPrintable, printable, upTo, firstLine, Lines, end, cut, line, lines, fields, into, leadingBlanks, dropLead, dropTrail, trim, fieldFrom, TrimmedIs, FieldAt, ScannedIs}
 
 pub upTo-le : (m : ℕ) (s : List ℕ) → upTo m s ≤ length s
@@ -87,6 +87,17 @@ and-assoc false b c = refl
 bar-count : (b : ℕ) (t : List ℕ) → length (fields (b ∷ t)) ≡ cond (eqb b 124) 1 0 + length (fields t)
 bar-count b t = bools (eqb b 124) (λ e. rw e (omega arith)) (λ e. rw e (omega (arith, into-length b t)))
 
+-- A byte 0x20 to 0x7B, which neither ends a field nor a line.
+abbrev pub isPlain : ℕ → Bool
+isPlain b = leb 32 b && leb b 123
+
+-- A plain byte lies between its bounds, and is printable.
+plain-bounds : (b : ℕ) → isPlain b ≡ true → (32 ≤ b) × (b ≤ 123)
+plain-bounds b e = let h = both (leb 32 b) (leb b 123) e in (leb-true 32 b (h .0), leb-true b 123 (h .1))
+
+plain-printable : (b : ℕ) → 32 ≤ b → b ≤ 123 → true ≡ isPrintable b
+plain-printable b low high = rw (le-leb _ _ low, le-leb b 126 (omega arith))
+
 module _ (s : List ℕ) (right : Bool) (parts i : ℕ) (v : Scanning s right parts i) where
   pub scan-here : i < length s → getD s i 0 ≡ 10 → ScannedIs s i right parts
   scan-here h q =
@@ -121,6 +132,14 @@ module _ (s : List ℕ) (right : Bool) (parts i : ℕ) (v : Scanning s right par
       at-most : (b : Bool) → cond b 1 0 ≤ 1
       at-most true = omega arith
       at-most false = omega arith
+
+  pub scan-plain : i < length s → isPlain (getD s i 0) ≡ true → Scanning s right parts (i + 1)
+  scan-plain h e =
+      let b = plain-bounds (getD s i 0) e in
+      let next : Scanning s (right && true) (parts + 0) (i + 1) =
+      scan-on h (λ q. omega (arith, b .0)) true (plain-printable _ (b .0) (b .1)) 0 (rw (ne-eqb (getD s i 0) 124 (λ q. omega (arith, b .1)))) in
+      let f : Scanning s right (parts + 0) (i + 1) = rw (and-true right) at next in
+      rw (add-zero parts) at f
 
 -- Blanks.
 

@@ -1,8 +1,8 @@
 // Lines, the fields of a line, and the value in a field.
 ghost use mathlib.Core.Path.{_≡_};
-ghost use mathlib.Core.Bool.{cond};
+ghost use mathlib.Core.Bool.{cond, _&&_};
 ghost use Prim.Native.Nat.{_≤_};
-ghost use lib.Dec.{eqb};
+ghost use lib.Dec.{eqb, leb};
 ghost use lib.ListN.{length, take, drop};
 ghost use Rattle.text.specs.Lines.{isPrintable, upTo, leadingBlanks, dropLead, dropTrail, TrimmedIs, FieldAt, ScannedIs};
 
@@ -35,6 +35,10 @@ pub fn scan(text: &[u8]) -> Scanned
     let mut i: usize = 0;
     while i < text.len() {
         let b = text[i];
+        if is_plain(b) {
+            i += 1;
+            continue;
+        }
         if b == 10 {
             return Scanned {
                 length: i,
@@ -51,6 +55,13 @@ pub fn scan(text: &[u8]) -> Scanned
         printable: printable,
         fields: fields,
     }
+}
+
+// Whether a byte is 0x20 to 0x7B: it is printable, and neither ends a field nor a line.
+fn is_plain(b: u8) -> bool
+    ensures { λ r. ⌜ r ≡ (leb 32 b && leb b 123) ⌝ }
+{
+    (32 <= b) & (b <= 123)
 }
 
 // Whether a byte is 0x20 to 0x7E.

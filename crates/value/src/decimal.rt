@@ -66,7 +66,7 @@ pub(crate) fn is_decimal(text: &[u8]) -> bool
     ensures { λ r. ⌜ r ≡ isDecimal (now (text .entry)) ⌝ }
 {
     let count = digits(text);
-    is_digits(text) | ((0 < count) & is_pointed(tail(text, count)))
+    (0 < count) & ((count == text.len()) | is_pointed(tail(text, count)))
 }
 
 // How many digits stand after the point of a decimal without sign.

@@ -29,7 +29,7 @@ pub fn obs_time(text: &[u8]) -> Value
 }
 
 // Whether a text has the form of a time.
-fn is_time(text: &[u8]) -> bool
+pub fn is_time(text: &[u8]) -> bool
     ensures { λ r. ⌜ r ≡ isTime (now (text .entry)) ⌝ }
 {
     starts_in(b"dddd-dd-ddTdd:dd:dd", text) & is_time_end(tail(text, 19))
@@ -51,7 +51,7 @@ fn is_fraction(text: &[u8]) -> bool
 }
 
 // Whether a time's date stands in the calendar and its time on the clock.
-fn is_moment(text: &[u8]) -> bool
+pub fn is_moment(text: &[u8]) -> bool
     ensures { λ r. ⌜ r ≡ isMoment (now (text .entry)) ⌝ }
 {
     is_date(part(text, 0, 4), part(text, 5, 2), part(text, 8, 2))

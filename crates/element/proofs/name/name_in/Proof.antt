@@ -1,18 +1,21 @@
 -- `element::name::name_in` meets its contract.
 use borrow.Author.Needs.{needs}
+use lib.Dec.{lit<}
+use native.Mathlib.Nat.{lt-trans}
+use native.Mathlib.Omega.{arith}
 use lib.ListN.{List·getD-eq-default}
 use mathlib.Core.List.{[]}
 use mathlib.Core.Path.{sym}
-use Rattle.element.proofs.Names.{cut-is, size-is}
+use Rattle.element.proofs.Names.{cut-is, size-is, start-small}
 use Rattle.element.proofs.name.name_in.Statement.{statement}
 use Rattle.element.specs.Table.{names}
 use Rattle.element.proofs.name.name_in.Tie as tie
 
-mul-tail : tie.Need-mul-tail
-mul-tail c = search needs
-
 array-read-tail : tie.Need-array-read-tail
 array-read-tail c = search needs
+
+cast-tail : tie.Need-cast-tail
+cast-tail c = record { fits = lt-trans (start-small (c .before .before .args .index) (omega (arith, c .if1 .taken))) (lit< tt) }
 
 tail-requires : tie.Need-tail-requires
 tail-requires c κs = search needs
@@ -41,8 +44,8 @@ pub name-in-spec : {M : Type 1} → statement M
 name-in-spec =
     tie.close
     (tie.spec
-    mul-tail
     array-read-tail
+    cast-tail
     tail-requires
     name-length-requires
     front-requires
