@@ -7,13 +7,12 @@ use native.Mathlib.Numerals.{add-one}
 use native.Mathlib.Omega.{arith}
 use lib.Dec.{eqb}
 use lib.ListN.{length, take, drop, getD, length-take, length-drop, length-map, length-append, drop-of-length-le, List·getD-map}
-use lib.Seq.{drop-cons, drop-drop, drop-nil, getD-take, getD-drop, ext-getD}
+use lib.Seq.{drop-cons, drop-drop, getD-take, getD-drop, ext-getD}
 use borrow.Author.Tests.{eq-eqb}
-use Rattle.element.specs.Table.{elements}
 use Rattle.element.specs.Observation.{Observation, setOf}
 use Rattle.report.specs.Report.{Outcome, accepted, refused, read, versionLine, member}
 use Rattle.report.specs.Index.{Index}
-use Rattle.layout.specs.Written.{lineOf, namesAt, valuesAt, dataLines, columnsOf, blockText, written, Valid}
+use Rattle.layout.specs.Written.{lineOf, namesAt, dataLines, columnsOf, blockText, written, Valid}
 use Rattle.layout.proofs.Accepted.{AllRight, right-take, right-drop, accepted-right}
 use Rattle.layout.proofs.BlockReads.{first-column}
 use Rattle.layout.proofs.ColumnLaws.{columns-below, or-second}

@@ -1,14 +1,12 @@
 -- Laws of the fields of a line, written one after the other, each with the byte after it.
 use Prim.Native.Nat.{ℕ, zero, suc, _+_, _-_, _≤_, _<_}
-use mathlib.Core.Path.{_≡_, refl, sym, ap, _∙_}
+use mathlib.Core.Path.{_≡_, refl, sym, _∙_}
 use mathlib.Core.List.{List, [], _∷_, _++_, append-assoc, append-nil, map}
 use native.Mathlib.Numerals.{add-one}
 use native.Mathlib.Omega.{arith}
-use lib.Dec.{ltb}
 use lib.ListN.{length, take, drop, getD, length-append, length-take, length-drop, length-map, drop-of-length-le}
 use lib.Seq.{drop-cons}
 use borrow.Author.Tests.{lt-ltb, le-ltb}
-use Rattle.text.specs.Lines.{bar, lineFeed}
 use Rattle.layout.specs.Written.{barred, lineOf}
 use Rattle.pack.specs.Inner.{Wrote, endOf, fieldText}
 use Rattle.pack.proofs.WritingLaws.{Writing, write-begin, write-room, write-end}

@@ -5,7 +5,6 @@ use mathlib.Core.Bool.{Bool, true, false}
 use mathlib.Core.List.{List, []}
 use native.Mathlib.Omega.{arith}
 use lib.ListN.{length, take, drop, getD}
-use Rattle.text.proofs.Bools.{bools}
 use Rattle.element.specs.Table.{elements}
 use Rattle.element.specs.Observation.{isPresent, bit}
 use Rattle.element.proofs.Sets.{has-set}

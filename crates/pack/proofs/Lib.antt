@@ -1,11 +1,14 @@
+-- The promise settles the answer and the output.
+pub mod Unique
+pub mod Settled
+-- Writing into the rest of the lent output.
 pub mod WritingLaws
 pub mod FieldLaws
 pub mod IndexLaws
 pub mod ColumnLaws
 pub mod BlockLaws
+-- Planning, and the promise met.
 pub mod SizeLaws
 pub mod PlanLaws
 pub mod RowCounts
 pub mod PromiseLaws
-pub mod Unique
-pub mod Settled

@@ -1,13 +1,13 @@
--- Laws of planning: the index of an accepted report notes its observations, and the cuts of its rows write its packed report.
-use Prim.Native.Nat.{ℕ, zero, suc, _+_, _-_, _*_, _/_, _≤_, _<_, min}
+-- Laws of planning: the index of an accepted report notes its observations, their sizes are within the text limit, and the cuts of its
+-- rows write its packed report.
+use Prim.Native.Nat.{ℕ, zero, suc, _+_, _-_, _*_, _≤_, _<_}
 use mathlib.Core.Path.{_≡_, refl, sym, ap, _∙_}
-use mathlib.Core.Bool.{Bool, true, false, _&&_}
+use mathlib.Core.Bool.{true}
 use mathlib.Core.List.{List, [], _∷_, _++_, map}
 use native.Mathlib.Nat.{zero-add}
 use native.Mathlib.Omega.{arith}
-use lib.Dec.{eqb, leb}
 use lib.ListN.{length, take, drop, getD, length-take, length-drop, length-map, take-append-drop, List·getD-map}
-use lib.Seq.{take-all, take-length, length-take-le, getD-take, getD-drop, ext-getD}
+use lib.Seq.{take-length, length-take-le, getD-take, getD-drop, ext-getD}
 use borrow.Author.Tests.{eq-eqb, le-leb}
 use Rattle.refusal.specs.declared.Refusal.{Refusal}
 use Rattle.element.specs.Table.{elements}
@@ -18,19 +18,18 @@ use Rattle.report.specs.declared.answer.Checked.{Checked}
 use Rattle.report.specs.declared.answer.Checked.the-variants as Checked
 use Rattle.report.proofs.AnswerLaws.{accepted-of, refused-of}
 use Rattle.report.proofs.Join.{read-accepted}
-use Rattle.cuts.specs.Cuts.{cost, Cuts, Wanted}
-use Rattle.cuts.specs.Block.{Row, rowsOf, total, valueBytes, bytesOf, blockBytes, allMore}
-use Rattle.cuts.specs.Plan.{ready, Planned, Answered, Promised}
+use Rattle.cuts.specs.Cuts.{cost, Cuts}
+use Rattle.cuts.specs.Block.{rowLimit, textLimit, Row, total, valueBytes, bytesOf, blockBytes, allMore}
+use Rattle.cuts.specs.Plan.{ready, Planned}
 use Rattle.cuts.specs.declared.Plan.{Plan}
 use Rattle.cuts.proofs.SumLaws.{values-append}
-use Rattle.layout.specs.Written.{written, Valid}
+use Rattle.layout.specs.Written.{Valid}
 use Rattle.layout.specs.Cost.{sizeOf, asRow}
-use Rattle.layout.specs.Packed.{PackedIs}
 use Rattle.layout.proofs.Accepted.{Right, AllRight, accepted-right, accepted-rows}
 use Rattle.layout.proofs.NoShorter.{Cutting, no-shorter}
 use Rattle.layout.proofs.BlockBytes.{written-bytes}
 use Rattle.layout.proofs.Packed.{rows-are, valid-rows, rows-valid, packed}
-use Rattle.pack.specs.Inner.{observationsOf, observed, Indexed, rowsFrom, notedBytes, SizesAre, RowsCut, RoomFor, CutIs, PlannedIs}
+use Rattle.pack.specs.Inner.{observationsOf, observed, Indexed, notedBytes, SizesAre, RowsCut, RoomFor, CutIs, PlannedIs}
 use Rattle.pack.specs.declared.plan.Planned.the-variants as Planned′
 use Rattle.pack.proofs.BlockLaws.{rows-sets}
 use Rattle.pack.proofs.SizeLaws.{noted-size}
@@ -87,7 +86,7 @@ cost-values (suc k ∷ ks) (x ∷ xs) v =
     )
 
 -- The values of an accepted report are within the text limit.
-pub values-few : (report : List ℕ) (L : List Observation) → read report ≡ accepted L → total (map sizeOf L) ≤ 65536
+pub values-few : (report : List ℕ) (L : List Observation) → read report ≡ accepted L → total (map sizeOf L) ≤ textLimit
 values-few report L h =
     let c : Cutting L (length report) = no-shorter report L h in
     omega (
@@ -146,9 +145,9 @@ module _ {report : List ℕ} {index : Index} (is : read report ≡ accepted (obs
       let n = length-map (observed report) sizeOf in
       rw (
         eq-eqb (length (map sizeOf (observed report))) (length (map setOf (observed report))) (n ∙ sym m),
-        le-leb (length (map setOf (observed report))) 1024 (omega (arith, accepted-rows report (observed report) is)),
+        le-leb (length (map setOf (observed report))) rowLimit (omega (arith, accepted-rows report (observed report) is)),
         le-leb (length (map setOf (observed report))) (length cuts) (omega arith),
-        le-leb (total (map sizeOf (observed report))) 65536 (values-few report (observed report) is),
+        le-leb (total (map sizeOf (observed report))) textLimit (values-few report (observed report) is),
       )
 
   -- So its cuts are those of the packed report.

@@ -14,7 +14,7 @@ use Rattle.report.specs.Answers.{request}
 use Rattle.report.specs.Index.{Index}
 use Rattle.layout.specs.Written.{written}
 use Rattle.cuts.specs.declared.Plan.{Plan}
-use Rattle.pack.specs.Promise.{answerOf, PackedInto, RefusedAs, Promised}
+use Rattle.pack.specs.Promise.{PackedInto, Promised}
 use Rattle.pack.specs.Inner.{observed, Wrote, BlocksAsk, CutIs, PlannedIs}
 use Rattle.pack.specs.declared.Packed.{Packed}
 use Rattle.pack.specs.declared.Packed.the-variants as Packed

@@ -1,7 +1,7 @@
 -- How many rows a report has: no more than the limit, and no more than it has lines.
-use Prim.Native.Nat.{ℕ, zero, suc, _+_, _≤_, _<_}
-use mathlib.Core.Path.{_≡_, refl, sym, ap, _∙_}
-use mathlib.Core.Bool.{Bool, true, false}
+use Prim.Native.Nat.{ℕ, suc, _+_, _≤_, _<_}
+use mathlib.Core.Path.{_≡_, refl, ap, _∙_}
+use mathlib.Core.Bool.{true}
 use mathlib.Core.List.{List, [], _∷_}
 use native.Mathlib.Numerals.{add-one}
 use native.Mathlib.Omega.{arith}
@@ -15,10 +15,10 @@ use Rattle.element.specs.Observation.{Observation}
 use Rattle.report.specs.Report.{State, Step, next, row, bad, Outcome, accepted, refused, afterRow, after, readFrom, read, begin, step, rowLimit}
 use Rattle.report.proofs.Join.{refused≢accepted, more-accepted, end-opens, read-accepted}
 use Rattle.layout.proofs.Accepted.{accepted-rows}
-use Rattle.pack.specs.Inner.{observationsOf, observed, isFeed, feeds, shortRows, isShort}
+use Rattle.pack.specs.Inner.{observationsOf, observed, feedOf, feeds, shortRows, shortText, isShort}
 
 -- An LF more.
-pub feeds-next : (t : List ℕ) (i : ℕ) → i < length t → feeds (drop i t) ≡ isFeed (getD t i 0) + feeds (drop (i + 1) t)
+pub feeds-next : (t : List ℕ) (i : ℕ) → i < length t → feeds (drop i t) ≡ feedOf (getD t i 0) + feeds (drop (i + 1) t)
 unfolding feeds
 feeds-next t i h = rw (add-one, drop-cons t i 0)
 
@@ -81,4 +81,4 @@ rows-few report = any-report (λ L. length L ≤ rowLimit) report (omega arith) 
 -- A short one has few.
 pub short-few : (report : List ℕ) → isShort report ≡ true → length (observed report) ≤ shortRows
 unfolding isShort
-short-few report e = omega (arith, rows-lines report, leb-true (feeds report) shortRows (both (leb (length report) 2048) (leb (feeds report) shortRows) e .1))
+short-few report e = omega (arith, rows-lines report, leb-true (feeds report) shortRows (both (leb (length report) shortText) (leb (feeds report) shortRows) e .1))

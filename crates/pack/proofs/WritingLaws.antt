@@ -3,7 +3,7 @@ use Prim.Native.Nat.{ℕ, _+_, _-_, _≤_, _<_}
 use mathlib.Core.Path.{_≡_, refl, sym, ap, _∙_}
 use mathlib.Core.List.{List, [], _∷_, _++_, append-nil}
 use native.Mathlib.Omega.{arith}
-use lib.ListN.{length, take, drop, set, length-append, length-take, length-drop, take-append-drop}
+use lib.ListN.{length, take, drop, set, length-append, length-take, length-drop}
 use lib.Seq.{take-all, take-add, take-at, drop-at, drop-drop}
 use Rattle.text.specs.Output.{over, putOver, putLength}
 use Rattle.text.proofs.Outputs.{over-length, over-set, over-step, put-room}

@@ -48,7 +48,7 @@ pub record Wrote (text before after : List ℕ) (answer : ℕ) : Type 0 where
   pub answer-is : answer ≡ length text
   pub output-is : after ≡ over text before
 
--- The byte after the field that is followed by others or not: field k of n, counted from 1.
+-- The byte after field k of n, counted from 1: a bar where another field follows, else LF.
 abbrev pub endOf : ℕ → ℕ → ℕ
 endOf k n = cond (ltb k n) bar lineFeed
 
@@ -157,24 +157,28 @@ abbrev pub PlannedCase : List ℕ → Index → List ℕ → Planned → Type 0
 PlannedCase report index cuts (Planned.Cut plan) = CutIs report index cuts plan
 PlannedCase report index cuts (Planned.Refused refusal) = read report ≡ refused refusal
 
+-- What planning promises: the cuts of the packed report, or the report's refusal.
 pub record PlannedIs (report : List ℕ) (index : Index) (cuts : List ℕ) (answer : Planned) : Type 0 where
   pub case : PlannedCase report index cuts answer
 
 -- ---- short reports
 
 -- 1 for LF, else 0.
-abbrev pub isFeed : ℕ → ℕ
-isFeed byte = cond (eqb byte lineFeed) 1 0
+abbrev pub feedOf : ℕ → ℕ
+feedOf byte = cond (eqb byte lineFeed) 1 0
 
 -- How many LFs a text has.
 unfoldable pub feeds : List ℕ → ℕ
 feeds [] = 0
-feeds (byte ∷ text) = isFeed byte + feeds text
+feeds (byte ∷ text) = feedOf byte + feeds text
 
--- How many rows a short report has at most.
+-- The most rows that a short report has, and the most bytes.
 abbrev pub shortRows : ℕ
 shortRows = 16
 
--- The report is short: it has no more than 2,048 bytes, and no more lines than a short report can have rows.
+abbrev pub shortText : ℕ
+shortText = 2048
+
+-- The report is short: it has no more bytes than that, and no more lines than a short report can have rows.
 unfoldable pub isShort : List ℕ → Bool
-isShort report = leb (length report) 2048 && leb (feeds report) shortRows
+isShort report = leb (length report) shortText && leb (feeds report) shortRows

@@ -4,6 +4,7 @@ use crate::column::list_columns;
 use crate::index::wide;
 use crate::line::write_names;
 use crate::line::write_row;
+use element::ELEMENTS;
 ghost use mathlib.Core.Path.{_≡_};
 ghost use mathlib.Core.List.{[], _∷_};
 ghost use Prim.Native.Nat.{_≤_};
@@ -60,7 +61,7 @@ fn write_block(
     requires { ⌜ BlockAsks (now report) (lent (now sets) (now starts) (now lengths)) (now output) first count ⌝ }
     ensures { λ r. ⌜ Wrote (blockText (rowsFrom (now (report .entry)) first count)) (now (output .entry)) (now (output .exit)) r ⌝ }
 {
-    let mut columns = [0usize; 29];
+    let mut columns = [0usize; ELEMENTS];
     write_block_with(
         report,
         sets,

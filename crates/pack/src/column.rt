@@ -1,11 +1,12 @@
 // The columns of a block: the elements present in some row of it, in the order in which columns are written.
+use element::ELEMENTS;
 ghost use mathlib.Core.Path.{_≡_};
 ghost use lib.ListN.{length};
 ghost use Rattle.element.specs.Table.{elements};
 ghost use Rattle.pack.specs.Inner.{joined, Listed};
 
 // The elements by index, in the order in which columns are written: element order.
-const COLUMN_ORDER: [usize; 29] = [
+const COLUMN_ORDER: [usize; ELEMENTS] = [
     0,
     1,
     2,
@@ -57,7 +58,7 @@ pub(crate) fn list_columns(set: u64, columns: &mut [usize]) -> usize
 {
     let mut n: usize = 0;
     let mut k: usize = 0;
-    while k < 29 {
+    while k < ELEMENTS {
         let element = COLUMN_ORDER[k];
         if (set >> element) % 2 == 1 {
             columns[n] = element;

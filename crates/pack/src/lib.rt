@@ -1,11 +1,13 @@
 // A report packed into the shortest report of the same observations.
 use cuts::Plan;
+use element::ELEMENTS;
 use plan::Planned;
 use refusal::Kind;
 use refusal::Refusal;
+use report::ROW_LIMIT;
+use short::SHORT_ROWS;
 ghost use Prim.Native.Nat.{_≤_};
 ghost use lib.ListN.{length};
-ghost use Rattle.report.specs.Report.{rowLimit};
 ghost use Rattle.report.specs.Index.{lent};
 ghost use Rattle.pack.specs.Promise.{Promised};
 ghost use Rattle.pack.specs.Inner.{observed, shortRows, RoomFor, CutIs};
@@ -39,11 +41,11 @@ fn pack_short(report: &[u8], output: &mut [u8]) -> Packed
     requires { ⌜ length (observed (now report)) ≤ shortRows ⌝ }
     ensures { λ r. ⌜ Promised (now (report .entry)) (now (output .entry)) (now (output .exit)) r ⌝ }
 {
-    let mut sets = [0u64; 17];
-    let mut starts = [0u16; 493];
-    let mut lengths = [0u16; 493];
-    let mut sizes = [0u32; 16];
-    let mut cuts = [0u16; 16];
+    let mut sets = [0u64; SHORT_ROWS + 1];
+    let mut starts = [0u16; (SHORT_ROWS + 1) * ELEMENTS];
+    let mut lengths = [0u16; (SHORT_ROWS + 1) * ELEMENTS];
+    let mut sizes = [0u32; SHORT_ROWS];
+    let mut cuts = [0u16; SHORT_ROWS];
     pack_with(
         report,
         &mut sets,
@@ -59,11 +61,11 @@ fn pack_short(report: &[u8], output: &mut [u8]) -> Packed
 fn pack_long(report: &[u8], output: &mut [u8]) -> Packed
     ensures { λ r. ⌜ Promised (now (report .entry)) (now (output .entry)) (now (output .exit)) r ⌝ }
 {
-    let mut sets = [0u64; 257];
-    let mut starts = [0u16; 7453];
-    let mut lengths = [0u16; 7453];
-    let mut sizes = [0u32; 256];
-    let mut cuts = [0u16; 256];
+    let mut sets = [0u64; ROW_LIMIT + 1];
+    let mut starts = [0u16; (ROW_LIMIT + 1) * ELEMENTS];
+    let mut lengths = [0u16; (ROW_LIMIT + 1) * ELEMENTS];
+    let mut sizes = [0u32; ROW_LIMIT];
+    let mut cuts = [0u16; ROW_LIMIT];
     pack_with(
         report,
         &mut sets,

@@ -53,7 +53,7 @@ pub(crate) fn write_row(
 fn end_of(k: usize, n: usize) -> u8
     ensures { λ r. ⌜ r ≡ endOf k n ⌝ }
 {
-    if k < n { 124 } else { 10 }
+    if k < n { b'|' } else { b'\n' }
 }
 
 // Writes a value and the byte after it.

@@ -1,14 +1,20 @@
 // Reports that are so short that they have few rows.
 ghost use mathlib.Core.Path.{_≡_};
 ghost use Prim.Native.Nat.{_≤_};
-ghost use Rattle.pack.specs.Inner.{isFeed, feeds, isShort};
+ghost use Rattle.pack.specs.Inner.{feedOf, feeds, isShort};
 
-// Whether a report is short: of at most 2,048 bytes, and 16 lines.
+// The most rows that a short report has, and the most lines.
+pub(crate) const SHORT_ROWS: usize = 16;
+
+// The most bytes that it has.
+const SHORT_TEXT: usize = 2048;
+
+// Whether a report is short.
 pub(crate) fn is_short(report: &[u8]) -> bool
     ensures { λ r. ⌜ r ≡ isShort (now (report .entry)) ⌝ }
 {
-    if report.len() <= 2048 {
-        return line_count(report) <= 16;
+    if report.len() <= SHORT_TEXT {
+        return line_count(report) <= SHORT_ROWS;
     }
     false
 }
@@ -28,7 +34,7 @@ fn line_count(report: &[u8]) -> usize
 
 // 1 for LF, else 0.
 fn line_end(byte: u8) -> usize
-    ensures { λ r. ⌜ (r ≡ isFeed byte) × (r ≤ 1) ⌝ }
+    ensures { λ r. ⌜ (r ≡ feedOf byte) × (r ≤ 1) ⌝ }
 {
-    if byte == 10 { 1 } else { 0 }
+    if byte == b'\n' { 1 } else { 0 }
 }

@@ -1,41 +1,30 @@
-use native.Mathlib.Omega.{arith}
+-- `pack::pack_long` meets its contract.
 use Rattle.pack.proofs.RowCounts.{rows-few}
 use borrow.Author.Needs.{needs}
 use Rattle.pack.proofs.pack_long.Statement.{statement}
 use Rattle.pack.proofs.pack_long.Tie as tie
-use Rattle.pack.proofs.pack_long.Reads as reads
-use Rattle.pack.proofs.pack_long.Lts as lts
-use Rattle.pack.proofs.pack_with.Reads as pack-with-reads
 
--- src/lib.rt:69:9
 slice-aggregate-pack-with : tie.Need-slice-aggregate-pack-with
 slice-aggregate-pack-with c = search needs
 
--- src/lib.rt:70:9
 slice-aggregate-pack-with-2 : tie.Need-slice-aggregate-pack-with-2
 slice-aggregate-pack-with-2 c = search needs
 
--- src/lib.rt:71:9
 slice-aggregate-pack-with-3 : tie.Need-slice-aggregate-pack-with-3
 slice-aggregate-pack-with-3 c = search needs
 
--- src/lib.rt:72:9
 slice-aggregate-pack-with-4 : tie.Need-slice-aggregate-pack-with-4
 slice-aggregate-pack-with-4 c = search needs
 
--- src/lib.rt:73:9
 slice-aggregate-pack-with-5 : tie.Need-slice-aggregate-pack-with-5
 slice-aggregate-pack-with-5 c = search needs
 
--- src/lib.rt:67:5
 pack-with-requires : tie.Need-pack-with-requires
 pack-with-requires c κs = let few = rows-few (c .before .before .before .before .before .before .before .before .args .report .now) in search needs
 
--- src/lib.rt:59:1
 same-length : tie.Need-same-length
 same-length c = search needs
 
--- src/lib.rt:59:1
 returns : tie.Need-returns
 returns c = search needs
 

@@ -1,77 +1,62 @@
+-- `pack::pack_with` meets its contract.
 use Rattle.pack.proofs.PromiseLaws.{planned-refused, planned-cut}
 use borrow.Author.Needs.{needs}
 use Rattle.pack.proofs.pack_with.Statement.{statement}
 use Rattle.pack.proofs.pack_with.Tie as tie
-use Rattle.pack.proofs.pack_with.Reads as reads
-use Rattle.pack.proofs.pack_with.Lts as lts
-use Rattle.pack.proofs.plan.plan.Reads as plan-reads
-use Rattle.pack.proofs.write_plan.Reads as write-plan-reads
 
--- src/lib.rt:91:9
 plan-requires : tie.Need-plan-requires
 plan-requires c κs = search needs
 
--- src/lib.rt:93:26
 enum-known-planned : tie.Need-enum-known-planned
 enum-known-planned c = search needs
 
--- src/lib.rt:94:13
 same-length : tie.Need-same-length
 same-length c = search needs
 
--- src/lib.rt:94:13
 same-length-2 : tie.Need-same-length-2
 same-length-2 c = search needs
 
--- src/lib.rt:94:13
 same-length-3 : tie.Need-same-length-3
 same-length-3 c = search needs
 
--- src/lib.rt:94:13
 same-length-4 : tie.Need-same-length-4
 same-length-4 c = search needs
 
--- src/lib.rt:94:13
 same-length-5 : tie.Need-same-length-5
 same-length-5 c = search needs
 
--- src/lib.rt:94:13
 returns : tie.Need-returns
-returns c = planned-refused _ (c .before .before .before .before .before .before .before .before .before .before .before .before .before .plan .ensures) (c .before .planned .given .1)
+returns c =
+    let plan = c .before .before .before .before .before .before .before .before .before .before .before .before .before .plan in
+    planned-refused _ (plan .ensures) (c .before .planned .given .1)
 
--- src/lib.rt:96:22
 enum-known-planned-2 : tie.Need-enum-known-planned-2
 enum-known-planned-2 c = search needs
 
--- src/lib.rt:97:13
 write-plan-requires : tie.Need-write-plan-requires
-write-plan-requires c κs = planned-cut (c .before .before .before .before .before .before .before .before .before .before .before .before .before .before .before .before .before .before .plan .ensures) (c .before .before .before .before .before .before .planned2 .given .1)
+write-plan-requires c κs =
+    let plan = c .before .before .before .before .before .before .before .before .before .before .before .before .before .before .before .before .before .before .plan in
+    let planned2 = c .before .before .before .before .before .before .planned2 in
+    planned-cut (plan .ensures) (planned2 .given .1)
 
--- src/lib.rt:97:13
 same-length-6 : tie.Need-same-length-6
 same-length-6 c = search needs
 
--- src/lib.rt:97:13
 same-length-7 : tie.Need-same-length-7
 same-length-7 c = search needs
 
--- src/lib.rt:97:13
 same-length-8 : tie.Need-same-length-8
 same-length-8 c = search needs
 
--- src/lib.rt:97:13
 same-length-9 : tie.Need-same-length-9
 same-length-9 c = search needs
 
--- src/lib.rt:97:13
 same-length-10 : tie.Need-same-length-10
 same-length-10 c = search needs
 
--- src/lib.rt:97:13
 same-length-11 : tie.Need-same-length-11
 same-length-11 c = search needs
 
--- src/lib.rt:97:13
 returns-2 : tie.Need-returns-2
 returns-2 c = search needs
 

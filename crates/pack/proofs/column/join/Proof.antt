@@ -1,3 +1,4 @@
+-- `pack::column::join` meets its contract. The invariant: the sets left, joined to those passed, make the set.
 use Prim.Native.Nat.{_≤_, _-_}
 use mathlib.Core.Path.{_≡_, refl, sym, _∙_}
 use native.Mathlib.Omega.{arith}
@@ -7,8 +8,6 @@ use Rattle.pack.proofs.ColumnLaws.{joined-next, joined-end}
 use borrow.Author.Needs.{needs}
 use Rattle.pack.proofs.column.join.Statement.{statement}
 use Rattle.pack.proofs.column.join.Tie as tie
-use Rattle.pack.proofs.column.join.Reads as reads
-use Rattle.pack.proofs.column.join.Lts as lts
 
 abbrev Inv-loop : tie.InvT-loop
 Inv-loop sets all₀ i₀ all i = (i ≤ length sets) × (joined all (drop i sets) ≡ joined 0 sets)
@@ -16,33 +15,31 @@ Inv-loop sets all₀ i₀ all i = (i ≤ length sets) × (joined all (drop i set
 abbrev μ-loop : tie.MeasureT-loop
 μ-loop sets all₀ i₀ all i = length sets - i
 
--- src/column.rt:46:5
 loop-holds : tie.Need-loop-holds Inv-loop μ-loop
 loop-holds c = (omega arith, refl)
 
--- src/column.rt:47:21
 mul-all : tie.Need-mul-all Inv-loop μ-loop
 mul-all c = search needs
 
--- src/column.rt:47:21
 shared-slice-read-all : tie.Need-shared-slice-read-all Inv-loop μ-loop
 shared-slice-read-all c = search needs
 
--- src/column.rt:48:9
 add-i : tie.Need-add-i Inv-loop μ-loop
 add-i c = search needs
 
--- src/column.rt:46:5
 loop-less : tie.Need-loop-less Inv-loop μ-loop
 loop-less c = omega arith
 
--- src/column.rt:46:5
 loop-again : tie.Need-loop-again Inv-loop μ-loop
-loop-again c = (omega arith, joined-next (c .before .before .before .args .sets .now) (c .before .before .loop .all) (c .before .before .loop .i) (c .before .loop-test .taken) ∙ c .before .before .loop .inv .1)
+loop-again c =
+    let args = c .before .before .before .args in
+    let loop = c .before .before .loop in
+    (omega arith, joined-next (args .sets .now) (loop .all) (loop .i) (c .before .loop-test .taken) ∙ loop .inv .1)
 
--- src/column.rt:41:1
 returns : tie.Need-returns Inv-loop μ-loop
-returns c = sym (joined-end (c .before .before .args .sets .now) (c .before .loop .all) (c .before .loop .i) (c .loop-test .left)) ∙ c .before .loop .inv .1
+returns c =
+    let args = c .before .before .args in
+    sym (joined-end (args .sets .now) (c .before .loop .all) (c .before .loop .i) (c .loop-test .left)) ∙ c .before .loop .inv .1
 
 pub join-spec : {M : Type 1} → statement M
 join-spec =

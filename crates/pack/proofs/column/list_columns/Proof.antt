@@ -1,3 +1,4 @@
+-- `pack::column::list_columns` meets its contract. The invariant: of the first k of the column order, those in the set are listed.
 use Prim.Native.Nat.{_-_}
 use mathlib.Core.Logic.{⊎-elim}
 use native.Mathlib.Omega.{arith}
@@ -6,8 +7,6 @@ use mathlib.Core.Path.{sym, _∙_}
 use borrow.Author.Needs.{needs}
 use Rattle.pack.proofs.column.list_columns.Statement.{statement}
 use Rattle.pack.proofs.column.list_columns.Tie as tie
-use Rattle.pack.proofs.column.list_columns.Reads as reads
-use Rattle.pack.proofs.column.list_columns.Lts as lts
 
 abbrev Inv-loop : tie.InvT-loop
 Inv-loop set columns₀ n₀ k₀ columns n k = Listing set columns n k
@@ -15,51 +14,49 @@ Inv-loop set columns₀ n₀ k₀ columns n k = Listing set columns n k
 abbrev μ-loop : tie.MeasureT-loop
 μ-loop set columns₀ n₀ k₀ columns n k = 29 - k
 
--- src/column.rt:60:5
 loop-holds : tie.Need-loop-holds Inv-loop μ-loop
 loop-holds c = list-begin (c .args .set) (c .args .columns .now) (c .pre)
 
--- src/column.rt:61:23
 mul-element : tie.Need-mul-element Inv-loop μ-loop
 mul-element c = omega arith
 
--- src/column.rt:61:23
 array-read-element : tie.Need-array-read-element Inv-loop μ-loop
 array-read-element c = omega arith
 
--- src/column.rt:62:13
 shr-if1 : tie.Need-shr-if1 Inv-loop μ-loop
 shr-if1 c = omega (arith, order-known (c .before .loop .k) (c .loop-test .taken))
 
--- src/column.rt:63:13
 mul-columns : tie.Need-mul-columns Inv-loop μ-loop
-mul-columns c = omega (arith, c .before .before .loop .inv .few)
+mul-columns c =
+    let loop = c .before .before .loop in
+    omega (arith, loop .inv .few)
 
--- src/column.rt:63:13
 slice-write-columns : tie.Need-slice-write-columns Inv-loop μ-loop
-slice-write-columns c = omega (arith, c .before .before .loop .inv .few, c .before .before .loop .inv .long)
+slice-write-columns c =
+    let loop = c .before .before .loop in
+    omega (arith, loop .inv .few, loop .inv .long)
 
--- src/column.rt:64:13
 add-n : tie.Need-add-n Inv-loop μ-loop
-add-n c = omega (arith, c .before .before .loop .inv .few)
+add-n c =
+    let loop = c .before .before .loop in
+    omega (arith, loop .inv .few)
 
--- src/column.rt:66:9
 add-k : tie.Need-add-k Inv-loop μ-loop
 add-k c = search needs
 
--- src/column.rt:60:5
 loop-less : tie.Need-loop-less Inv-loop μ-loop
 loop-less c = omega arith
 
--- src/column.rt:60:5
 loop-again : tie.Need-loop-again Inv-loop μ-loop
-loop-again c = ⊎-elim (λ w. rw (w .1, w .2) (list-in (c .before .before .loop .inv) (c .before .loop-test .taken) (w .0 .taken))) (λ w. rw (w .1, w .2) (list-out (c .before .before .loop .inv) (c .before .loop-test .taken) (w .0 .left))) (c .if1 .came)
+loop-again c =
+    let loop = c .before .before .loop in
+    ⊎-elim (λ w. rw (w .1, w .2) (list-in (loop .inv) (c .before .loop-test .taken) (w .0 .taken))) (λ w. rw (w .1, w .2) (list-out (loop .inv) (c .before .loop-test .taken) (w .0 .left))) (c .if1 .came)
 
--- src/column.rt:54:1
 same-length : tie.Need-same-length Inv-loop μ-loop
-same-length c = c .before .loop .inv .long ∙ sym (c .before .before .pre)
+same-length c =
+    let pre = c .before .before .pre in
+    c .before .loop .inv .long ∙ sym pre
 
--- src/column.rt:54:1
 returns : tie.Need-returns Inv-loop μ-loop
 returns c = list-end (c .before .loop .inv) (c .loop-test .left)
 

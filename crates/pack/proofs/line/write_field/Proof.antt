@@ -1,31 +1,36 @@
+-- `pack::line::write_field` meets its contract.
 use Rattle.pack.proofs.WritingLaws.{put-length, put-inside, put-ended}
 use native.Mathlib.Omega.{arith}
 use borrow.Author.Needs.{needs}
 use Rattle.pack.proofs.line.write_field.Statement.{statement}
 use Rattle.pack.proofs.line.write_field.Tie as tie
-use Rattle.pack.proofs.line.write_field.Reads as reads
-use Rattle.pack.proofs.line.write_field.Lts as lts
-use Rattle.text.proofs.output.put.Reads as put-reads
 
--- src/line.rt:83:9
 put-requires : tie.Need-put-requires
 put-requires c κs = search needs
 
--- src/line.rt:84:5
 slice-write-output : tie.Need-slice-write-output
-slice-write-output c = put-inside (c .before .before .before .before .before .before .args .value .now) (c .before .before .before .before .before .before .args .output .now) (c .before .before .before .before .before .before .pre) (c .before .before .put .ensures)
+slice-write-output c =
+    let args = c .before .before .before .before .before .before .args in
+    let pre = c .before .before .before .before .before .before .pre in
+    let put = c .before .before .put in
+    put-inside (args .value .now) (args .output .now) pre (put .ensures)
 
--- src/line.rt:85:5
 add-result : tie.Need-add-result
-add-result c = omega (arith, put-length (c .before .before .before .before .before .before .args .value .now) (c .before .before .before .before .before .before .args .output .now) (c .before .before .before .before .before .before .pre) (c .before .before .put .ensures))
+add-result c =
+    let args = c .before .before .before .before .before .before .args in
+    let pre = c .before .before .before .before .before .before .pre in
+    let put = c .before .before .put in
+    omega (arith, put-length (args .value .now) (args .output .now) pre (put .ensures))
 
--- src/line.rt:79:1
 same-length : tie.Need-same-length
 same-length c = search needs
 
--- src/line.rt:79:1
 returns : tie.Need-returns
-returns c = put-ended (c .before .before .before .before .before .before .args .value .now) (c .before .before .before .before .before .before .args .output .now) (c .before .before .before .before .before .before .pre) (c .before .before .put .ensures) (c .before .before .before .before .before .before .args .end)
+returns c =
+    let args = c .before .before .before .before .before .before .args in
+    let pre = c .before .before .before .before .before .before .pre in
+    let put = c .before .before .put in
+    put-ended (args .value .now) (args .output .now) pre (put .ensures) (args .end)
 
 pub write-field-spec : {M : Type 1} → statement M
 write-field-spec =

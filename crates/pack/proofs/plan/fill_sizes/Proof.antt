@@ -1,5 +1,6 @@
+-- `pack::plan::fill_sizes` meets its contract. The invariant: the sizes of the first rows are filled in.
 use Prim.Native.Nat.{_≤_, _-_}
-use mathlib.Core.Path.{_≡_, refl, sym, _∙_}
+use mathlib.Core.Path.{_≡_, refl}
 use native.Mathlib.Omega.{arith}
 use lib.ListN.{length, length-set, length-take, length-drop}
 use Rattle.pack.specs.Inner.{SizesAre}
@@ -7,9 +8,6 @@ use Rattle.pack.proofs.SizeLaws.{sizes-begin, sizes-next}
 use borrow.Author.Needs.{needs}
 use Rattle.pack.proofs.plan.fill_sizes.Statement.{statement}
 use Rattle.pack.proofs.plan.fill_sizes.Tie as tie
-use Rattle.pack.proofs.plan.fill_sizes.Reads as reads
-use Rattle.pack.proofs.plan.fill_sizes.Lts as lts
-use Rattle.pack.proofs.plan.row_size.Reads as row-size-reads
 
 abbrev Inv-loop : tie.InvT-loop
 Inv-loop sets lengths sizes₀ row₀ sizes row = (row ≤ length sizes) × (length sizes ≡ length sizes₀) × SizesAre sets lengths sizes row
@@ -17,71 +15,72 @@ Inv-loop sets lengths sizes₀ row₀ sizes row = (row ≤ length sizes) × (len
 abbrev μ-loop : tie.MeasureT-loop
 μ-loop sets lengths sizes₀ row₀ sizes row = length sizes₀ - row
 
--- src/plan.rt:49:5
 loop-holds : tie.Need-loop-holds Inv-loop μ-loop
 loop-holds c = (omega arith, refl, sizes-begin _ _ _)
 
--- src/plan.rt:50:21
 mul-start : tie.Need-mul-start Inv-loop μ-loop
-mul-start c = omega (arith, c .before .before .before .before .before .pre .1, c .before .loop .inv .1)
+mul-start c =
+    let pre = c .before .before .before .before .before .pre in
+    omega (arith, pre .1, c .before .loop .inv .1)
 
--- src/plan.rt:51:19
 add-end : tie.Need-add-end Inv-loop μ-loop
-add-end c = omega (arith, c .before .before .before .before .before .pre .1, c .before .loop .inv .1)
+add-end c =
+    let pre = c .before .before .before .before .before .pre in
+    omega (arith, pre .1, c .before .loop .inv .1)
 
--- src/plan.rt:52:31
 mul-row-size : tie.Need-mul-row-size Inv-loop μ-loop
 mul-row-size c = search needs
 
--- src/plan.rt:52:31
 shared-slice-read-row-size : tie.Need-shared-slice-read-row-size Inv-loop μ-loop
-shared-slice-read-row-size c = omega (arith, c .before .before .before .before .before .before .pre .0, c .before .before .loop .inv .1)
+shared-slice-read-row-size c =
+    let pre = c .before .before .before .before .before .before .pre in
+    let loop = c .before .before .loop in
+    omega (arith, pre .0, loop .inv .1)
 
--- src/plan.rt:52:42
 mul-row-size-2 : tie.Need-mul-row-size-2 Inv-loop μ-loop
 mul-row-size-2 c = search needs
 
--- src/plan.rt:52:42
 sub-row-size : tie.Need-sub-row-size Inv-loop μ-loop
 sub-row-size c = search needs
 
--- src/plan.rt:52:42
 part-row-size-start : tie.Need-part-row-size-start Inv-loop μ-loop
 part-row-size-start c = search needs
 
--- src/plan.rt:52:42
 part-row-size-end : tie.Need-part-row-size-end Inv-loop μ-loop
-part-row-size-end c = omega (arith, c .before .before .before .before .before .before .pre .1, c .before .before .loop .inv .1)
+part-row-size-end c =
+    let pre = c .before .before .before .before .before .before .pre in
+    let loop = c .before .before .loop in
+    omega (arith, pre .1, loop .inv .1)
 
--- src/plan.rt:52:22
 row-size-requires : tie.Need-row-size-requires Inv-loop μ-loop
-row-size-requires c κs = simp (length-take, length-drop) (omega (arith, c .before .before .before .before .before .before .before .pre .1, c .before .before .before .loop .inv .1))
+row-size-requires c κs =
+    let pre = c .before .before .before .before .before .before .before .pre in
+    let loop = c .before .before .before .loop in
+    simp (length-take, length-drop) (omega (arith, pre .1, loop .inv .1))
 
--- src/plan.rt:52:9
 mul-sizes : tie.Need-mul-sizes Inv-loop μ-loop
 mul-sizes c = search needs
 
--- src/plan.rt:52:9
 slice-write-sizes : tie.Need-slice-write-sizes Inv-loop μ-loop
 slice-write-sizes c = search needs
 
--- src/plan.rt:53:9
 add-row : tie.Need-add-row Inv-loop μ-loop
 add-row c = search needs
 
--- src/plan.rt:49:5
 loop-less : tie.Need-loop-less Inv-loop μ-loop
-loop-less c = omega (arith, c .before .before .before .before .loop .inv .1)
+loop-less c =
+    let loop = c .before .before .before .before .loop in
+    omega (arith, loop .inv .1)
 
--- src/plan.rt:49:5
 loop-again : tie.Need-loop-again Inv-loop μ-loop
-loop-again c = (simp length-set (omega arith), simp length-set (c .before .before .before .before .loop .inv .1), sizes-next (c .before .before .before .before .loop .inv .2) (c .before .before .before .loop-test .taken) (c .row-size .ensures))
+loop-again c =
+    let loop = c .before .before .before .before .loop in
+    let loop-test = c .before .before .before .loop-test in
+    (simp length-set (omega arith), simp length-set (loop .inv .1), sizes-next (loop .inv .2) (loop-test .taken) (c .row-size .ensures))
 
--- src/plan.rt:44:1
 same-length : tie.Need-same-length Inv-loop μ-loop
 same-length c = c .before .loop .inv .1
 
--- src/plan.rt:44:1
 returns : tie.Need-returns Inv-loop μ-loop
 returns c =
     let e : c .before .loop .row ≡ length (c .before .loop .sizes) = omega arith in

@@ -1,23 +1,17 @@
-use mathlib.Core.Path.{sym, ap, _∙_}
+-- `pack::short::is_short` meets its contract.
 use borrow.Author.Tests.{le-leb, lt-leb}
 use Rattle.pack.specs.Inner.{isShort}
 use borrow.Author.Needs.{needs}
 use Rattle.pack.proofs.short.is_short.Statement.{statement}
 use Rattle.pack.proofs.short.is_short.Tie as tie
-use Rattle.pack.proofs.short.is_short.Reads as reads
-use Rattle.pack.proofs.short.is_short.Lts as lts
-use Rattle.pack.proofs.short.line_count.Reads as line-count-reads
 
--- src/short.rt:11:16
 line-count-requires : tie.Need-line-count-requires
 line-count-requires c κs = search needs
 
--- src/short.rt:11:9
 returns : tie.Need-returns
 unfolding isShort
 returns c = rw (le-leb _ _ (c .before .if1 .taken), c .line-count .ensures)
 
--- src/short.rt:7:1
 returns-2 : tie.Need-returns-2
 unfolding isShort
 returns-2 c = rw (lt-leb _ _ (c .if1 .left))

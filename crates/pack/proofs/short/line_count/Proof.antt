@@ -1,3 +1,4 @@
+-- `pack::short::line_count` meets its contract. The invariant: the LFs passed and the LFs left are those of the report.
 use Prim.Native.Nat.{_≤_, _-_, _+_}
 use mathlib.Core.Path.{_≡_}
 use native.Mathlib.Omega.{arith}
@@ -7,9 +8,6 @@ use Rattle.pack.proofs.RowCounts.{feeds-next, feeds-end}
 use borrow.Author.Needs.{needs}
 use Rattle.pack.proofs.short.line_count.Statement.{statement}
 use Rattle.pack.proofs.short.line_count.Tie as tie
-use Rattle.pack.proofs.short.line_count.Reads as reads
-use Rattle.pack.proofs.short.line_count.Lts as lts
-use Rattle.pack.proofs.short.line_end.Reads as line-end-reads
 
 abbrev Inv-loop : tie.InvT-loop
 Inv-loop report n₀ i₀ n i = (i ≤ length report) × (n ≤ i) × (n + feeds (drop i report) ≡ feeds report)
@@ -17,37 +15,37 @@ Inv-loop report n₀ i₀ n i = (i ≤ length report) × (n ≤ i) × (n + feeds
 abbrev μ-loop : tie.MeasureT-loop
 μ-loop report n₀ i₀ n i = length report - i
 
--- src/short.rt:22:5
 loop-holds : tie.Need-loop-holds Inv-loop μ-loop
 loop-holds c = (omega arith, omega arith, omega arith)
 
--- src/short.rt:23:23
 shared-slice-read-line-end : tie.Need-shared-slice-read-line-end Inv-loop μ-loop
 shared-slice-read-line-end c = search needs
 
--- src/short.rt:23:14
 line-end-requires : tie.Need-line-end-requires Inv-loop μ-loop
 line-end-requires c κs = search needs
 
--- src/short.rt:23:9
 add-n : tie.Need-add-n Inv-loop μ-loop
-add-n c = omega (arith, c .line-end .ensures .1, c .before .before .before .loop .inv .1)
+add-n c =
+    let loop = c .before .before .before .loop in
+    omega (arith, c .line-end .ensures .1, loop .inv .1)
 
--- src/short.rt:24:9
 add-i : tie.Need-add-i Inv-loop μ-loop
 add-i c = search needs
 
--- src/short.rt:22:5
 loop-less : tie.Need-loop-less Inv-loop μ-loop
 loop-less c = search needs
 
--- src/short.rt:22:5
 loop-again : tie.Need-loop-again Inv-loop μ-loop
-loop-again c = (omega arith, omega (arith, c .line-end .ensures .1, c .before .before .before .loop .inv .1), omega (arith, c .line-end .ensures .0, feeds-next (c .before .before .before .before .before .args .report .now) (c .before .before .before .loop .i) (c .before .before .loop-test .taken), c .before .before .before .loop .inv .2))
+loop-again c =
+    let loop = c .before .before .before .loop in
+    let args = c .before .before .before .before .before .args in
+    let loop-test = c .before .before .loop-test in
+    (omega arith, omega (arith, c .line-end .ensures .1, loop .inv .1), omega (arith, c .line-end .ensures .0, feeds-next (args .report .now) (loop .i) (loop-test .taken), loop .inv .2))
 
--- src/short.rt:17:1
 returns : tie.Need-returns Inv-loop μ-loop
-returns c = omega (arith, feeds-end (c .before .before .before .args .report .now) (c .before .loop .i) (c .loop-test .left), c .before .loop .inv .2)
+returns c =
+    let args = c .before .before .before .args in
+    omega (arith, feeds-end (args .report .now) (c .before .loop .i) (c .loop-test .left), c .before .loop .inv .2)
 
 pub line-count-spec : {M : Type 1} → statement M
 line-count-spec =

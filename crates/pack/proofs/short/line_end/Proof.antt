@@ -1,16 +1,12 @@
+-- `pack::short::line_end` meets its contract.
 use native.Mathlib.Omega.{arith}
 use borrow.Author.Tests.{eq-eqb, ne-eqb}
-use borrow.Author.Needs.{needs}
 use Rattle.pack.proofs.short.line_end.Statement.{statement}
 use Rattle.pack.proofs.short.line_end.Tie as tie
-use Rattle.pack.proofs.short.line_end.Reads as reads
-use Rattle.pack.proofs.short.line_end.Lts as lts
 
--- src/short.rt:30:1
 returns : tie.Need-returns
 returns c = (rw (eq-eqb _ _ (c .if1 .taken)), omega arith)
 
--- src/short.rt:30:1
 returns-2 : tie.Need-returns-2
 returns-2 c = (rw (ne-eqb _ _ (c .if1 .left)), omega arith)
 
