@@ -1,0 +1,97 @@
+/* kyrrbolda.h: the proved reporting box, as C and C++ see it.
+ *
+ * The library checks a report of ADES observations (pipe-separated text, edition 2022), shows and values each element, and packs
+ * a report into the shortest one that holds the same observations. docs/PROMISES.md says what is proved of each function.
+ *
+ * Link target/staticlib/libkyrrbolda.a, which `rt staticlib kyrrbolda` writes for x86-64.
+ *
+ * For every call:
+ *  - Any bytes of any length may be handed in. A pointer is never null: an empty report or output is a valid pointer with length 0.
+ *  - The report is only read. Report and output must not overlap.
+ *  - No memory is kept, allocated or freed; calls from several threads at once do not disturb one another.
+ *  - `refused` is 0, or the number of the refusal (kyrr_refusal below); `line` and `place` say where it is. Where a call is refused
+ *    the other fields are 0 and no lent byte has changed. Where it is not, `line` and `place` are 0.
+ *  - Lines and observations count from 1. `place` is the column's position from 1 for refusals 6 to 10, the element number for 11
+ *    to 13, and else 0. `line` is 0 for a fault of the whole text or of the request (1, 15, 16, 17).
+ */
+#ifndef KYRRBOLDA_H
+#define KYRRBOLDA_H
+
+#include <stddef.h>
+#include <stdint.h>
+
+#ifdef __cplusplus
+extern "C" {
+#endif
+
+/* The longest report that is accepted, in bytes. No packed report is longer than the report it was made from, so an output of this
+ * length is always long enough. */
+#define KYRR_TEXT_LIMIT 65536
+
+/* The most observations of a report. */
+#define KYRR_ROW_LIMIT 256
+
+/* The elements, numbered from 1 in this order: permID, provID, artSat, trkSub, obsID, obsSubID, mode, stn, sys, ctr, pos1, pos2,
+ * pos3, prog, obsTime, rmsTime, ra, dec, rmsRA, rmsDec, rmsCorr, astCat, mag, rmsMag, band, photCat, photAp, notes, remarks. */
+#define KYRR_ELEMENTS 29
+
+/* Why a call is refused: always the first fault, in the order of the rules. */
+enum kyrr_refusal {
+    KYRR_TEXT_TOO_LONG = 1,        /* the text is over 65,536 bytes */
+    KYRR_NO_LINE_END = 2,          /* the line has no LF */
+    KYRR_WRONG_BYTE = 3,           /* a byte outside 0x20 to 0x7E */
+    KYRR_VERSION_EXPECTED = 4,     /* a version line is expected, or a line starts with # and is none */
+    KYRR_BLOCK_UNFINISHED = 5,     /* a block without a column line or without a data line */
+    KYRR_UNKNOWN_COLUMN = 6,       /* unknown column name */
+    KYRR_COLUMN_TWICE = 7,         /* a column named twice */
+    KYRR_TOO_WIDE = 8,             /* a value is too wide */
+    KYRR_WRONG_FORM = 9,           /* a value has the wrong form */
+    KYRR_OUT_OF_RANGE = 10,        /* a value is out of its range or vocabulary */
+    KYRR_ELEMENT_MISSING = 11,     /* a needed element is missing; place 1 where permID, provID, artSat and trkSub all are */
+    KYRR_GROUP_INCOMPLETE = 12,    /* a group is incomplete; place is its lowest missing element */
+    KYRR_CENTRE_NOT_EARTH = 13,    /* sys is WGS84 and ctr is not 399 */
+    KYRR_TOO_MANY_ROWS = 14,       /* the 257th data line */
+    KYRR_OUTPUT_TOO_SHORT = 15,    /* the output is shorter than the packed report */
+    KYRR_NO_OBSERVATION = 16,      /* no observation has that number */
+    KYRR_NO_ELEMENT = 17,          /* no element has that number */
+    KYRR_FIELD_COUNT_DIFFERS = 18  /* a data line has not as many fields as there are columns */
+};
+
+/* What kind of value an element has. */
+enum kyrr_kind {
+    KYRR_NO_VALUE = 0, /* the element has no numeric value, present or not */
+    KYRR_ABSENT = 1,   /* the element has one and is absent from the observation */
+    KYRR_WHOLE = 2,    /* ctr: the number is `whole` */
+    KYRR_DECIMAL = 3,  /* the number is `whole` with the last `part` digits after the point: 10.50 is 1050 with 2 places */
+    KYRR_TIME = 4,     /* obsTime: `whole` is the day, 0 on 1858-11-17; `part` the microseconds of the day */
+    KYRR_ANGLE = 5     /* ra and dec: `whole` is in units of 0.000000001 degree */
+};
+
+typedef struct { uint64_t refused, line, place, observations; } kyrr_checked;
+
+typedef struct { uint64_t refused, line, place, absent, start, length; } kyrr_shown;
+
+typedef struct { uint64_t refused, line, place, kind; int64_t whole; uint64_t part; } kyrr_valued;
+
+typedef struct { uint64_t refused, line, place, length; } kyrr_packed;
+
+/* Checks a report: how many observations it holds, or the first fault. Refusals 1 to 14 and 18. */
+kyrr_checked kyrr_check(const uint8_t *report, size_t report_length);
+
+/* Where the value of an element of an observation lies: the `length` bytes of the report from `start` on are the value as it was
+ * written. `absent` is 1, and start and length 0, where the observation lacks the element. Refusals of kyrr_check, then 16, then 17. */
+kyrr_shown kyrr_show(const uint8_t *report, size_t report_length, uint64_t observation, uint64_t element);
+
+/* The exact value of an element of an observation, by its kind (kyrr_kind). Refusals of kyrr_check, then 16, then 17. */
+kyrr_valued kyrr_value(const uint8_t *report, size_t report_length, uint64_t observation, uint64_t element);
+
+/* Writes the packed report over the start of the output and gives its length; the bytes of the output after it stay as they were.
+ * The packed report reads as the same observations in the same order, and no report that does is shorter. Refusals of kyrr_check;
+ * then 15, exactly where the output is shorter than the packed report. The empty report packs to nothing: length 0. */
+kyrr_packed kyrr_pack(const uint8_t *report, size_t report_length, uint8_t *output, size_t output_length);
+
+#ifdef __cplusplus
+}
+#endif
+
+#endif
