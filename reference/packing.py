@@ -30,6 +30,8 @@ def pack_cases(chance, report, count=1):
 
 def of_document(chance):
     """The specimen, the empty report, and the sums of document 01."""
+    for report in (SPECIMEN, b""):
+        packs_well(ades.read(report)[1], chance, layouts=0)
     for room in (104, 103, 105, 0, 1, 65_536, LARGEST_ROOM):
         yield to_pack(SPECIMEN, room, chance.randrange(256))
     for room in (0, 1, 100):
