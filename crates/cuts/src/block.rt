@@ -16,8 +16,8 @@ pub(crate) fn block_bytes(columns: u64, names: u64, values: u64, rows: u64) -> u
     15 + names + n + values + rows * n
 }
 
-// How many columns the set stands for.
-fn column_count(columns: u64) -> u64
+// How many columns a set stands for.
+pub fn column_count(columns: u64) -> u64
     ensures { λ r. ⌜ (r ≡ ones columns) × (r ≤ 64) ⌝ }
 {
     u64::count_ones(columns) as u64
@@ -36,7 +36,7 @@ pub(crate) fn names_after(known_set: u64, known: u64, set: u64) -> u64
 }
 
 // The bytes of the names of a set's elements.
-pub(crate) fn names_of(set: u64) -> u64
+pub fn names_of(set: u64) -> u64
     ensures { λ r. ⌜ r ≡ nameBytes nameLengths set ⌝ }
 {
     let mut left = set;

@@ -6,7 +6,7 @@ ghost use Rattle.cuts.specs.Block.{rowLimit, rowsOf, total, allMore};
 ghost use Rattle.cuts.specs.Plan.{ready, Planned, Promised};
 ghost use Rattle.cuts.specs.Runs.{Ready, Room, ReadyRuns, PlannedRuns, runsOf};
 
-mod block;
+pub mod block;
 mod cut_list;
 mod runs;
 mod search;

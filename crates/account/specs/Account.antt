@@ -1,0 +1,59 @@
+-- The account of a block's length, part by part.
+use Prim.Native.Nat.{ℕ, zero, suc, _+_, _*_, _^_, _/_, _%_}
+use mathlib.Core.Path.{_≡_}
+use mathlib.Core.Bool.{cond, _&&_}
+use mathlib.Core.List.{List, [], _∷_}
+use lib.Count.{ones}
+use lib.Dec.{eqb, leb}
+use lib.ListN.{length, getD}
+use Rattle.cuts.specs.Block.{Row, rowLimit, rowsOf, union, valueBytes, rowCount, nameLengths, nameBytes, bytesOf}
+use Rattle.account.specs.declared.Block.{Block}
+use Rattle.account.specs.declared.Gathering.{Gathering}
+
+-- The most bytes of values that rows within the limit can have together.
+abbrev pub valueLimit : ℕ
+valueLimit = rowLimit * 2 ^ 32
+
+-- A block with these columns, these bytes of values and so many rows: "bytes are 15, plus name lengths, plus one a column, plus
+-- values, plus rows times columns".
+unfoldable pub closed : ℕ → ℕ → ℕ → Block
+closed columns values rows =
+    record {
+      rows = rows;
+      columns = ones columns;
+      names = nameBytes nameLengths columns;
+      values = values;
+      bytes = bytesOf columns values rows;
+    }
+
+-- The account of a block of these rows.
+abbrev pub accountOf : List Row → Block
+accountOf rows = closed (union 0 rows) (valueBytes rows) (rowCount rows)
+
+-- The account of the rows with these sets and sizes, where they are within the limit and as many sizes as sets; else that of no rows.
+unfoldable pub accounted : List ℕ → List ℕ → Block
+accounted sets sizes =
+    cond (leb (length sets) rowLimit && eqb (length sizes) (length sets)) (accountOf (rowsOf sets sizes)) (accountOf [])
+
+-- What the rows hold together.
+pub record Gathered (rows : List Row) (r : Gathering) : Type 0 where
+  pub set-is : r .set ≡ union 0 rows
+  pub values-are : r .values ≡ valueBytes rows
+
+-- The length of an element's value where the bit is set, else 0.
+unfoldable pub bytesIf : ℕ → List ℕ → ℕ → ℕ
+bytesIf bit lengths e = cond (eqb bit 1) (getD lengths e 0) 0
+
+-- The bytes of the values of so many elements from one on; the lowest bit of the set stands for that one.
+unfoldable pub bytesIn : ℕ → ℕ → ℕ → List ℕ → ℕ
+bytesIn zero e set lengths = 0
+bytesIn (suc n) e set lengths = bytesIf (set % 2) lengths e + bytesIn n (suc e) (set / 2) lengths
+
+-- How many numbers from the first on equal a number.
+unfoldable pub leadingLike : ℕ → List ℕ → ℕ
+leadingLike set [] = 0
+leadingLike set (other ∷ others) = cond (eqb other set) (suc (leadingLike set others)) 0
+
+-- How many rows from the first on have the set of the first.
+abbrev pub alike : List ℕ → ℕ
+alike sets = leadingLike (getD sets 0 0) sets

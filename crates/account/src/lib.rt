@@ -1,0 +1,129 @@
+// The account of a block's length: 15, plus name lengths, plus one a column, plus values, plus rows times columns.
+ghost use mathlib.Core.Path.{_≡_};
+ghost use Prim.Native.Nat.{_^_, _≤_, _<_};
+ghost use lib.ListN.{length};
+ghost use Rattle.cuts.specs.Block.{rowLimit, rowsOf};
+ghost use Rattle.account.specs.Account.{valueLimit, closed, accounted, Gathered, bytesIf, bytesIn, alike};
+
+// The most rows of an account.
+const ROW_LIMIT: usize = 1024;
+
+// A block: its rows, its columns, the bytes of their names, the bytes of its values, and all its bytes.
+pub struct Block {
+    pub rows: u64,
+    pub columns: u64,
+    pub names: u64,
+    pub values: u64,
+    pub bytes: u64,
+}
+
+// What rows hold together: their elements and the bytes of their values.
+struct Gathering {
+    set: u64,
+    values: u64,
+}
+
+// The account of a block of the rows with these sets of elements and these bytes of values. Where there are more than 1,024 rows, or
+// not as many sizes as sets, it is that of no rows.
+pub fn account(sets: &[u64], sizes: &[u32]) -> Block
+    ensures { λ r. ⌜ r ≡ accounted (now (sets .entry)) (now (sizes .entry)) ⌝ }
+{
+    if ROW_LIMIT < sets.len() {
+        return close(0, 0, 0);
+    }
+    if sizes.len() != sets.len() {
+        return close(0, 0, 0);
+    }
+    let gathered = gather(sets, sizes);
+    close(gathered.set, gathered.values, sets.len() as u64)
+}
+
+// The account of a block from its set of elements, the bytes of its values and the number of its rows.
+fn close(set: u64, values: u64, rows: u64) -> Block
+    requires { ⌜ (values ≤ valueLimit) × (rows ≤ rowLimit) ⌝ }
+    ensures { λ r. ⌜ r ≡ closed set values rows ⌝ }
+{
+    let names = cuts::block::names_of(set);
+    let columns = cuts::block::column_count(set);
+    Block {
+        rows: rows,
+        columns: columns,
+        names: names,
+        values: values,
+        bytes: 15 + names + columns + values + rows * columns,
+    }
+}
+
+// What rows with these sets and sizes hold together.
+fn gather(sets: &[u64], sizes: &[u32]) -> Gathering
+    requires { ⌜ (length (now sets) ≤ rowLimit) × (length (now sizes) ≡ length (now sets)) ⌝ }
+    ensures { λ r. ⌜ Gathered (rowsOf (now (sets .entry)) (now (sizes .entry))) r × (r .values ≤ valueLimit) ⌝ }
+{
+    let mut set: u64 = 0;
+    let mut values: u64 = 0;
+    let mut i: usize = 0;
+    while i < sets.len() {
+        set = set | sets[i];
+        values += wide_size(sizes[i]);
+        i += 1;
+    }
+    Gathering {
+        set: set,
+        values: values,
+    }
+}
+
+// A size as a wider number.
+fn wide_size(size: u32) -> u64
+    ensures { λ r. ⌜ (r ≡ size) × (r < 2 ^ 32) ⌝ }
+{
+    size as u64
+}
+
+// The bytes of the values of a row with this set of elements, from the lengths of its values; a length that is not given counts 0.
+pub fn row_bytes(set: u64, lengths: &[u16]) -> u32
+    ensures { λ r. ⌜ r ≡ bytesIn 64 0 set (now (lengths .entry)) ⌝ }
+{
+    let mut left = set;
+    let mut sum: u32 = 0;
+    let mut e: usize = 0;
+    while e < 64 {
+        sum += bytes_if(left % 2, lengths, e);
+        left = left / 2;
+        e += 1;
+    }
+    sum
+}
+
+// A length where the element is in the set and its length is given, else 0.
+fn bytes_if(bit: u64, lengths: &[u16], e: usize) -> u32
+    ensures { λ r. ⌜ (r ≡ bytesIf bit (now (lengths .entry)) e) × (r < 65536) ⌝ }
+{
+    if bit == 1 {
+        if e < lengths.len() {
+            return wide_length(lengths[e]);
+        }
+    }
+    0
+}
+
+// A length as a wider number.
+fn wide_length(length: u16) -> u32
+    ensures { λ r. ⌜ (r ≡ length) × (r < 65536) ⌝ }
+{
+    length as u32
+}
+
+// How many rows from the first on have the set of the first.
+pub fn like_rows(sets: &[u64]) -> usize
+    ensures { λ r. ⌜ (r ≡ alike (now (sets .entry))) × (r ≤ length (now (sets .entry))) ⌝ }
+{
+    let mut i: usize = 0;
+    while i < sets.len() {
+        if sets[i] != sets[0] {
+            return i;
+        }
+        i += 1;
+    }
+    i
+}
