@@ -31,13 +31,16 @@ pub fn line_end() {
 // Prints `accepted N`, or the refusal.
 pub fn check_line(answer: Checked) {
     match answer {
-        Checked::Accepted(observations) => {
-            bytes(b"accepted ");
-            number(observations as u64);
-            line_end();
-        }
+        Checked::Accepted(observations) => accepted_line(observations),
         Checked::Refused(refusal) => refusal_line(refusal),
     }
+}
+
+// Prints `accepted N`.
+pub fn accepted_line(observations: usize) {
+    bytes(b"accepted ");
+    number(observations as u64);
+    line_end();
 }
 
 // Prints `refused K line L place P`.

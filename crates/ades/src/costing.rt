@@ -1,0 +1,165 @@
+// What a report's blocks cost in bytes, and what other blocks of the same rows would have cost.
+use crate::blocks;
+use crate::noted::ROWS;
+use account::Block;
+use element::ELEMENTS;
+use words::print;
+ghost use Prim.Native.Nat.{_≤_};
+ghost use mathlib.Core.Path.{_≡_};
+ghost use lib.ListN.{length};
+
+// The largest sum that is told apart.
+const LARGEST: u64 = 18446744073709551615;
+
+// Fills in the bytes of the values of each row of an index.
+pub fn fill_sizes(sets: &[u64], lengths: &[u16], sizes: &mut [u32])
+    ensures { λ r. ⌜ length (now (sizes .exit)) ≡ length (now (sizes .entry)) ⌝ }
+{
+    let mut row: usize = 0;
+    let mut first: usize = 0;
+    while row < sizes.len() {
+        if sets.len() <= row {
+            return;
+        }
+        if lengths.len() - first < ELEMENTS {
+            return;
+        }
+        let next = first + ELEMENTS;
+        sizes[row] = account::row_bytes(sets[row], &lengths[first..next]);
+        first = next;
+        row += 1;
+    }
+}
+
+// Prints the account of a packed report block by block, and what other blocks of the same rows would have cost.
+pub fn print_costs(report: &[u8], packed: &[u8], sets: &[u64], sizes: &[u32])
+    requires { ⌜ length (now sizes) ≡ length (now sets) ⌝ }
+{
+    let as_cut = cost_as_cut(report, sets, sizes);
+    let by_change = cost_by_change(sets, sizes);
+    print_blocks(packed, sets, sizes);
+    print_cost(b"   total: ", packed.len() as u64);
+    print_cost(b"   as it came: ", report.len() as u64);
+    print_cost(
+        b"   in the blocks that it came in, without padding: ",
+        as_cut,
+    );
+    print_cost(b"   in one block: ", account::account(sets, sizes).bytes);
+    print_cost(b"   with a block at every change of columns: ", by_change);
+}
+
+// Prints a line of words and a number of bytes.
+fn print_cost(words: &[u8], bytes: u64) {
+    print::bytes(words);
+    print::number(bytes);
+    print::line_end();
+}
+
+// Prints the account of each block of a text that holds the rows.
+fn print_blocks(text: &[u8], sets: &[u64], sizes: &[u32])
+    requires { ⌜ length (now sizes) ≡ length (now sets) ⌝ }
+{
+    let mut rows = [0usize; ROWS];
+    let count = blocks::fill_rows(text, &mut rows);
+    print_accounts(sets, sizes, &rows[..count]);
+}
+
+// Prints the account of each block, of so many rows each.
+fn print_accounts(sets: &[u64], sizes: &[u32], rows: &[usize])
+    requires { ⌜ length (now sizes) ≡ length (now sets) ⌝ }
+{
+    let mut first: usize = 0;
+    let mut k: usize = 0;
+    while k < rows.len() {
+        let end = end_of(first, rows[k], sets.len());
+        k += 1;
+        print_account(k, part_account(sets, sizes, first, end));
+        first = end;
+    }
+}
+
+// The bytes of the rows in the blocks of a text that holds them.
+fn cost_as_cut(text: &[u8], sets: &[u64], sizes: &[u32]) -> u64
+    requires { ⌜ length (now sizes) ≡ length (now sets) ⌝ }
+{
+    let mut rows = [0usize; ROWS];
+    let count = blocks::fill_rows(text, &mut rows);
+    cost_of(sets, sizes, &rows[..count])
+}
+
+// The bytes of the rows in blocks of so many rows each.
+fn cost_of(sets: &[u64], sizes: &[u32], rows: &[usize]) -> u64
+    requires { ⌜ length (now sizes) ≡ length (now sets) ⌝ }
+{
+    let mut total: u64 = 0;
+    let mut first: usize = 0;
+    let mut k: usize = 0;
+    while k < rows.len() {
+        let end = end_of(first, rows[k], sets.len());
+        total = sum(total, part_account(sets, sizes, first, end).bytes);
+        first = end;
+        k += 1;
+    }
+    total
+}
+
+// The bytes of the rows with a block at every change of columns.
+fn cost_by_change(sets: &[u64], sizes: &[u32]) -> u64
+    requires { ⌜ length (now sizes) ≡ length (now sets) ⌝ }
+{
+    let mut total: u64 = 0;
+    let mut first: usize = 0;
+    while first < sets.len() {
+        let rows = account::like_rows(&sets[first..]);
+        if rows == 0 {
+            return total;
+        }
+        let end = first + rows;
+        total = sum(total, part_account(sets, sizes, first, end).bytes);
+        first = end;
+    }
+    total
+}
+
+// Where so many rows from a first one on end: at the last of all at most.
+fn end_of(first: usize, rows: usize, all: usize) -> usize
+    requires { ⌜ first ≤ all ⌝ }
+    ensures { λ r. ⌜ (first ≤ r) × (r ≤ all) ⌝ }
+{
+    if rows < all - first {
+        first + rows
+    } else {
+        all
+    }
+}
+
+// The account of a block of the rows from a first one on up to an end.
+fn part_account(sets: &[u64], sizes: &[u32], first: usize, end: usize) -> Block
+    requires { ⌜ (first ≤ end) × (end ≤ length (now sets)) × (length (now sizes) ≡ length (now sets)) ⌝ }
+{
+    account::account(&sets[first..end], &sizes[first..end])
+}
+
+// The sum of two numbers, at most the largest.
+fn sum(a: u64, b: u64) -> u64 {
+    if a <= LARGEST - b { a + b } else { LARGEST }
+}
+
+// Prints the account of a block, by its number.
+fn print_account(number: usize, block: Block) {
+    print::bytes(b"   block ");
+    print::number(number as u64);
+    print::bytes(b": 15 + names ");
+    print::number(block.names);
+    print::bytes(b" + columns ");
+    print::number(block.columns);
+    print::bytes(b" + values ");
+    print::number(block.values);
+    print::bytes(b" + rows ");
+    print::number(block.rows);
+    print::bytes(b" x columns ");
+    print::number(block.columns);
+    print::bytes(b" = ");
+    print::number(block.bytes);
+    print::line_end();
+}

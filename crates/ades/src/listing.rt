@@ -1,0 +1,67 @@
+// `ades list`: every value of every observation.
+use crate::explain;
+use crate::noted;
+use crate::noted::ENTRIES;
+use crate::noted::ROWS;
+use crate::request;
+use element::ELEMENTS;
+use report::answer::Checked;
+use report::index::index;
+use words::print;
+
+// Prints the observations of a report, or its refusal.
+pub fn list(report: &[u8]) {
+    let mut sets = [0u64; ROWS];
+    let mut starts = [0u16; ENTRIES];
+    let mut lengths = [0u16; ENTRIES];
+    match index(report, 0, &mut sets, &mut starts, &mut lengths) {
+        Checked::Accepted(count) => {
+            print::accepted_line(count);
+            list_rows(report, count, &sets, &starts, &lengths);
+        }
+        Checked::Refused(refusal) => explain::refused(report, refusal),
+    }
+}
+
+// Prints so many observations, one after the other.
+fn list_rows(report: &[u8], count: usize, sets: &[u64], starts: &[u16], lengths: &[u16]) {
+    let mut row: usize = 0;
+    while row < count {
+        list_row(report, row, noted::set(sets, row), starts, lengths);
+        row += 1;
+    }
+}
+
+// Prints an observation: the present elements, each with its value.
+fn list_row(report: &[u8], row: usize, set: u64, starts: &[u16], lengths: &[u16]) {
+    let mut left = set;
+    let mut element: usize = 0;
+    print_heading(row);
+    while element < ELEMENTS {
+        if left % 2 == 1 {
+            print_value(element, noted::value(report, starts, lengths, row, element));
+        }
+        left = left / 2;
+        element += 1;
+    }
+}
+
+// Prints the number of an observation, counted from 1.
+fn print_heading(row: usize) {
+    if row < ROWS {
+        print::bytes(b"observation ");
+        print::number(row as u64 + 1);
+        print::line_end();
+    }
+}
+
+// Prints an element's name and its value.
+fn print_value(element: usize, value: &[u8]) {
+    if element < ELEMENTS {
+        print::bytes(b"  ");
+        request::print_name(element + 1);
+        print::bytes(b" ");
+        print::bytes(value);
+        print::line_end();
+    }
+}

@@ -1,0 +1,52 @@
+// What a command asks for: an element of an observation, as a person names them.
+use crate::command::word;
+use crate::error;
+use text::part::front;
+use words::number::Number;
+use words::print;
+
+// An observation and an element by their numbers, or words that name none, which has been told.
+pub enum Request {
+    Of(usize, usize),
+    Wrong,
+}
+
+// What the third and the fourth word of a command ask for.
+pub fn asked(command: &[u8]) -> Request {
+    match words::number::read(word(command, 2)) {
+        Number::Is(observation) => element_of(observation as usize, word(command, 3)),
+        Number::Nothing => {
+            error::tell_about(b"an observation is a number, not ", word(command, 2));
+            Request::Wrong
+        }
+    }
+}
+
+// An element of an observation, by number or by name.
+fn element_of(observation: usize, word: &[u8]) -> Request {
+    if let Number::Is(element) = words::number::read(word) {
+        return Request::Of(observation, element as usize);
+    }
+    let element = element::name::number(word);
+    if element == 0 {
+        error::tell_about(b"no element is called ", word);
+        return Request::Wrong;
+    }
+    Request::Of(observation, element)
+}
+
+// Prints `NAME of observation N`.
+pub fn print_asked(observation: usize, element: usize) {
+    print_name(element);
+    print::bytes(b" of observation ");
+    print::number(observation as u64);
+}
+
+// Prints the name of an element, by its number.
+pub fn print_name(element: usize) {
+    let mut name = [0u8; 8];
+    if 0 < element {
+        let length = element::name::put_name(element - 1, &mut name);
+        print::bytes(front(&name, length));
+    }
+}
