@@ -1,0 +1,145 @@
+"""Makes the reports that are measured:
+
+    python3 bench/shapes.py FOLDER
+
+writes one file for each shape into the folder, and prints the file's name and what the shape is.
+"""
+
+import pathlib
+import sys
+
+VERSION = "# version=2022"
+TEXT_LIMIT = 65_536
+ROW_LIMIT = 256
+
+# The columns of a usual report of one observatory, each with the width that its values are padded to.
+USUAL = {"permID": 7, "provID": 11, "trkSub": 8, "mode": 4, "stn": 4, "obsTime": 24, "ra": 10, "dec": 10,
+         "rmsRA": 5, "rmsDec": 6, "astCat": 8, "mag": 5, "rmsMag": 6, "band": 4, "photCat": 8, "notes": 5,
+         "remarks": 10}
+
+# Elements that any observation may have or not have: eight of them make 256 sets.
+FREE_TO_CHOOSE = ("obsID", "obsSubID", "prog", "rmsTime", "rmsRA", "rmsDec", "notes", "remarks")
+
+# Every element but artSat, whose values say nothing that the others do not.
+NEARLY_ALL = ("permID provID trkSub obsID obsSubID mode stn sys ctr pos1 pos2 pos3 prog obsTime rmsTime ra dec rmsRA "
+              "rmsDec rmsCorr astCat mag rmsMag band photCat photAp notes remarks").split()
+
+
+def observation(number):
+    """A value for every element of a moving object's observation of that number."""
+    seconds = 4 * 3_600 + 15 * number
+    clock = f"{seconds // 3_600:02}:{seconds // 60 % 60:02}:{seconds % 60:02}"
+    return {
+        "permID": str(3_202 + number), "provID": f"2016 AZ{number + 6}", "trkSub": f"a{number}",
+        "obsID": f"L{number:05}x", "obsSubID": f"{number}.1", "mode": "CCD", "stn": "W84", "sys": "WGS84", "ctr": "399",
+        "pos1": f"+289.{number:04}", "pos2": f"-30.{number:04}", "pos3": str(2_200 + number), "prog": "01",
+        "obsTime": f"2024-03-01T{clock}.{number % 10}Z", "rmsTime": "0.5",
+        "ra": f"{10 + number // 9}.{5_000 + 7 * number:06}", "dec": f"-{number // 8}.{25_000 + 11 * number:06}",
+        "rmsRA": "0.12", "rmsDec": f"0.{11 + number % 30}", "rmsCorr": "-0.05", "astCat": "Gaia2",
+        "mag": f"{18 + number % 3}.{number % 10}", "rmsMag": "0.1", "band": "G", "photCat": "Gaia2", "photAp": "5.6",
+        "notes": "K", "remarks": f"frame {number}"}
+
+
+def line(row, columns):
+    """A data line without padding."""
+    return "|".join(row.get(name, "") for name in columns)
+
+
+def block(columns, lines):
+    """A block of the columns and lines."""
+    return "".join(each + "\n" for each in (VERSION, "|".join(columns), *lines))
+
+
+def only(row, names):
+    """The row with those elements only."""
+    return {name: row[name] for name in names}
+
+
+PLAIN = "trkSub mode stn obsTime ra dec astCat".split()
+
+
+def one_row():
+    """One row."""
+    return block(PLAIN, [line(observation(1), PLAIN)])
+
+
+def plain_rows():
+    """256 plain rows."""
+    return block(PLAIN, [line(observation(number), PLAIN) for number in range(ROW_LIMIT)])
+
+
+def usual_row(number):
+    """A usual row: every third object has a number, and every eighth row has remarks."""
+    row = only(observation(number), USUAL)
+    for name in ("provID", "trkSub") if number % 3 == 0 else ("permID", "notes"):
+        row[name] = ""
+    if number % 8:
+        row["remarks"] = ""
+    return row
+
+
+def padded_rows():
+    """256 usual rows with padding."""
+    lines = ["|".join(usual_row(number)[name].ljust(width) for name, width in USUAL.items())
+             for number in range(ROW_LIMIT)]
+    return block([name.ljust(width) for name, width in USUAL.items()], lines)
+
+
+def nearly_all_columns():
+    """As many rows of nearly all columns as a report may hold."""
+    return block(NEARLY_ALL, [line(observation(number), NEARLY_ALL) for number in range(ROW_LIMIT)])
+
+
+def long_remarks():
+    """Rows with remarks of 300 bytes, as many as a report may hold."""
+    columns = PLAIN + ["remarks"]
+    text = ("seeing 2.1 arcsec, thin cirrus from the west, guiding by hand; " * 5)[:299] + "."
+    lines = [line(observation(number) | {"remarks": text}, columns) for number in range(ROW_LIMIT)]
+    while len(block(columns, lines)) > TEXT_LIMIT:
+        lines.pop()
+    return block(columns, lines)
+
+
+def two_kinds():
+    """Two kinds of rows in turn."""
+    columns = PLAIN + ["mag", "rmsMag", "band", "remarks"]
+    kinds = (PLAIN, columns)
+    return block(columns, [line(only(observation(number), kinds[number % 2]), columns) for number in range(ROW_LIMIT)])
+
+
+def own_sets():
+    """Every row its own set of elements."""
+    columns = PLAIN + list(FREE_TO_CHOOSE)
+    lines = []
+    for number in range(ROW_LIMIT):
+        chosen = [name for place, name in enumerate(FREE_TO_CHOOSE) if number >> place & 1]
+        lines.append(line(only(observation(number), PLAIN + chosen), columns))
+    return block(columns, lines)
+
+
+def whole_text():
+    """65,536 bytes: 256 usual rows without padding, filled up with remarks."""
+    columns = list(USUAL)
+    rows = [usual_row(number) | {"remarks": "r"} for number in range(ROW_LIMIT)]
+    missing = TEXT_LIMIT - len(block(columns, [line(row, columns) for row in rows]))
+    for number, row in enumerate(rows):
+        row["remarks"] += "e" * (missing // ROW_LIMIT + (number < missing % ROW_LIMIT))
+    return block(columns, [line(row, columns) for row in rows])
+
+
+SHAPES = {"one-row": one_row, "plain-rows": plain_rows, "padded-rows": padded_rows,
+          "nearly-all-columns": nearly_all_columns, "long-remarks": long_remarks, "two-kinds": two_kinds,
+          "own-sets": own_sets, "whole-text": whole_text}
+
+
+def main(folder):
+    """Writes every shape."""
+    for name, shape in SHAPES.items():
+        text = shape().encode("ascii")
+        assert len(text) <= TEXT_LIMIT, name
+        (folder / name).write_bytes(text)
+        print(name)
+
+
+if __name__ == "__main__":
+    main(pathlib.Path(sys.argv[1]))
