@@ -1,15 +1,16 @@
 -- Laws of the bytes of a class that a text starts with, each in the form that a loop asks for.
 use Prim.Native.Nat.{ℕ, suc, _+_, _≤_, _<_, zero-le, suc-le-suc}
-use mathlib.Core.Path.{_≡_}
-use mathlib.Core.Bool.{true, false}
+use mathlib.Core.Path.{_≡_, refl, ap, sym, _∙_}
+use mathlib.Core.Bool.{Bool, true, false, _||_}
 use mathlib.Core.List.{List, [], _∷_}
 use native.Mathlib.Numerals.{add-one}
-use lib.Dec.{leb}
+use lib.Dec.{leb, eqb}
 use lib.ListN.{length, getD, drop, drop-of-length-le}
 use lib.Seq.{drop-cons}
 use borrow.Author.Tests.{leb-true}
-use Rattle.text.specs.Class.{isDigit, isOf, leading}
+use Rattle.text.specs.Class.{isBetween, isDigit, isCapital, isOf, leading}
 use Rattle.text.specs.declared.class.Class.{Class}
+use Rattle.text.specs.declared.class.Class.the-variants.{Alphanumeric}
 use Rattle.text.proofs.Bools.{bools, both}
 
 -- One byte more.
@@ -35,3 +36,25 @@ leading-le k (b ∷ s) = bools (isOf k b) (λ e. rw e (suc-le-suc (leading-le k 
 -- A digit is 48 to 57.
 pub digit-range : (b : ℕ) → isDigit b ≡ true → (48 ≤ b) × (b ≤ 57)
 digit-range b e = let p = both (leb 48 b) (leb b 57) e in (leb-true 48 b (p .0), leb-true b 57 (p .1))
+
+-- The five parts of the alphanumerics, the letters before the others.
+letters-first : (digit capital small blank underscore : Bool)
+    → digit || capital || small || blank || underscore ≡ (capital || small) || (digit || blank || underscore)
+letters-first true true small blank underscore = refl
+letters-first true false true blank underscore = refl
+letters-first true false false blank underscore = refl
+letters-first false true small blank underscore = refl
+letters-first false false true blank underscore = refl
+letters-first false false false blank underscore = refl
+
+module _ (b : ℕ) where
+  parts : isOf Alphanumeric b ≡ (isCapital b || isBetween 97 122 b) || (isDigit b || eqb b 32 || eqb b 95)
+  parts = letters-first (isDigit b) (isCapital b) (isBetween 97 122 b) (eqb b 32) (eqb b 95)
+
+  -- A letter is alphanumeric.
+  pub letter-is : (t : Bool) → t ≡ true → t ≡ isCapital b || isBetween 97 122 b → true ≡ isOf Alphanumeric b
+  letter-is t e f = sym (parts ∙ ap (λ (x : Bool). x || (isDigit b || eqb b 32 || eqb b 95)) (sym f ∙ e))
+
+  -- No letter: a digit, the blank or the underscore.
+  pub other-is : (t : Bool) → t ≡ false → t ≡ isCapital b || isBetween 97 122 b → isDigit b || eqb b 32 || eqb b 95 ≡ isOf Alphanumeric b
+  other-is t e f = sym (parts ∙ ap (λ (x : Bool). x || (isDigit b || eqb b 32 || eqb b 95)) (sym f ∙ e))

@@ -2,16 +2,17 @@
 use Prim.Native.Nat.{ℕ, zero, suc, _≤_, _<_, _+_, _-_}
 use mathlib.Core.Path.{_≡_, refl, ap, sym, _∙_}
 use mathlib.Core.List.{List, [], _∷_, _++_}
-use mathlib.Core.Bool.{Bool, true, false, cond, _&&_}
-use lib.ListN.{length, take, drop, getD, drop-of-length-le, length-drop, length-take}
+use mathlib.Core.Bool.{Bool, true, false, cond, not, _&&_, _||_}
+use lib.ListN.{length, take, drop, getD, drop-of-length-le, length-drop, length-take, take-append-drop}
 use lib.Dec.{eqb, leb}
 use lib.Seq.{take-all, take-nil, take-take, drop-drop, drop-cons, take-suc, take-length}
-use borrow.Author.Tests.{eq-eqb, ne-eqb, leb-true, le-leb}
+use borrow.Author.Tests.{eq-eqb, ne-eqb, eqb-false, leb-true, le-leb}
 use native.Mathlib.Numerals.{add-one}
 use native.Mathlib.Omega.{arith}
 use native.Mathlib.Nat.{add-zero, sub-zero, zero-sub, suc-sub-suc}
-use Rattle.text.proofs.Bools.{bools, both}
+use Rattle.text.proofs.Bools.{bools, both, neither}
 use Rattle.text.specs.Lines.{isPrintable, printable, upTo, firstLine, Lines, end, cut, line, lines, fields, into, leadingBlanks, dropLead, dropTrail, trim, fieldFrom, TrimmedIs, FieldAt, ScannedIs}
+use Rattle.text.specs.Steps.{barsIn, holds, isTight, Scanning}
 
 pub upTo-le : (m : ℕ) (s : List ℕ) → upTo m s ≤ length s
 upTo-le m [] = omega arith
@@ -44,6 +45,11 @@ module _ (m : ℕ) (s : List ℕ) (i : ℕ) (inv : upTo m s ≡ i + upTo m (drop
   pub upTo-end : length s ≤ i → i ≡ upTo m s
   upTo-end h = let e : upTo m (drop i s) ≡ 0 = rw drop-of-length-le in omega arith
 
+-- The same j bytes further on.
+pub upTo-step : (m : ℕ) (s : List ℕ) (i j : ℕ) → upTo m s ≡ (i + j) + upTo m (drop (i + j) s) → i + j < length s → (getD s (i + j) 0 ≡ m → ⊥)
+    → upTo m s ≡ (i + (j + 1)) + upTo m (drop (i + (j + 1)) s)
+upTo-step m s i j e h n = let a : i + j + 1 ≡ i + (j + 1) = omega arith in rw a at (upTo-on m s (i + j) e h n)
+
 -- Fields.
 
 -- A line's fields: up to the first bar, and those after it.
@@ -65,13 +71,7 @@ fields-first (b ∷ t) =
 into-length : (b : ℕ) (t : List ℕ) → length (into b (fields t)) ≡ length (fields t)
 into-length b t = rw (fields-first t .1)
 
--- One pass over the first line: what is left of it comes to the same.
-pub record Scanning (s : List ℕ) (right : Bool) (parts i : ℕ) : Type 0 where
-  pub within : i ≤ length s
-  pub few : parts ≤ suc i
-  pub size : upTo 10 s ≡ i + upTo 10 (drop i s)
-  pub all : printable (firstLine s) ≡ right && printable (firstLine (drop i s))
-  pub count : suc (length (fields (firstLine s))) ≡ parts + length (fields (firstLine (drop i s)))
+-- One pass over the first line.
 
 pub scan-start : (s : List ℕ) → Scanning s true 1 0
 scan-start s = record { within = omega arith; few = omega arith; size = omega arith; all = refl; count = omega arith }
@@ -140,6 +140,86 @@ module _ (s : List ℕ) (right : Bool) (parts i : ℕ) (v : Scanning s right par
       scan-on h (λ q. omega (arith, b .0)) true (plain-printable _ (b .0) (b .1)) 0 (rw (ne-eqb (getD s i 0) 124 (λ q. omega (arith, b .1)))) in
       let f : Scanning s right (parts + 0) (i + 1) = rw (and-true right) at next in
       rw (add-zero parts) at f
+
+-- Steps of many bytes.
+
+or-false : (a : Bool) → a || false ≡ a
+or-false true = refl
+or-false false = refl
+
+or-assoc : (a b c : Bool) → a || (b || c) ≡ (a || b) || c
+or-assoc true b c = refl
+or-assoc false b c = refl
+
+module _ (s : List ℕ) (i : ℕ) where
+  pub printable-on : (right : Bool) → printable s ≡ right && printable (drop i s) → i < length s
+      → printable s ≡ (right && isPrintable (getD s i 0)) && printable (drop (i + 1) s)
+  printable-on right e h = e ∙ rw (add-one, drop-cons s i 0) (and-assoc right (isPrintable (getD s i 0)) _)
+
+  pub printable-end : (right : Bool) → printable s ≡ right && printable (drop i s) → length s ≤ i → right ≡ printable s
+  printable-end right e h =
+      let f : printable (drop i s) ≡ true = rw drop-of-length-le in sym (e ∙ ap (λ (b : Bool). right && b) f ∙ and-true right)
+
+  pub holds-on : (m : ℕ) (any : Bool) → holds m s ≡ any || holds m (drop i s) → i < length s
+      → holds m s ≡ (any || eqb (getD s i 0) m) || holds m (drop (i + 1) s)
+  holds-on m any e h = e ∙ rw (add-one, drop-cons s i 0) (or-assoc any (eqb (getD s i 0) m) _)
+
+  pub holds-end : (m : ℕ) (any : Bool) → holds m s ≡ any || holds m (drop i s) → length s ≤ i → any ≡ holds m s
+  holds-end m any e h =
+      let f : holds m (drop i s) ≡ false = rw drop-of-length-le in sym (e ∙ ap (λ (b : Bool). any || b) f ∙ or-false any)
+
+  pub bars-on : i < length s → barsIn (drop i s) ≡ cond (eqb (getD s i 0) 124) 1 0 + barsIn (drop (i + 1) s)
+  bars-on h = rw (add-one, drop-cons s i 0)
+
+  pub bars-end : length s ≤ i → barsIn (drop i s) ≡ 0
+  bars-end h = rw drop-of-length-le
+
+-- Without a bar there is none to count.
+pub bars-none : (s : List ℕ) → holds 124 s ≡ false → barsIn s ≡ 0
+bars-none [] e = refl
+bars-none (b ∷ t) e = let n = neither (eqb b 124) (holds 124 t) e in rw (n .0, bars-none t (n .1))
+
+-- A printable byte is no LF.
+not-feed : (b : ℕ) → isPrintable b ≡ true → eqb b 10 ≡ false
+not-feed b e = let low : 32 ≤ b = leb-true 32 b (both (leb 32 b) (leb b 126) e .0) in ne-eqb b 10 (λ q. omega arith)
+
+module _ (r : List ℕ) where
+  over-size : (a : List ℕ) → printable a ≡ true → upTo 10 (a ++ r) ≡ length a + upTo 10 r
+  over-size [] e = omega arith
+  over-size (b ∷ a) e =
+      let p = both (isPrintable b) (printable a) e in rw (not-feed b (p .0), over-size a (p .1)) (omega arith)
+
+  over-line : (a : List ℕ) → printable a ≡ true → firstLine (a ++ r) ≡ a ++ firstLine r
+  over-line [] e = refl
+  over-line (b ∷ a) e = let p = both (isPrintable b) (printable a) e in rw (not-feed b (p .0), over-line a (p .1))
+
+  over-all : (a : List ℕ) → printable a ≡ true → printable (a ++ r) ≡ printable r
+  over-all [] e = refl
+  over-all (b ∷ a) e = let p = both (isPrintable b) (printable a) e in rw (p .0, over-all a (p .1))
+
+  over-count : (a : List ℕ) → length (fields (a ++ r)) ≡ barsIn a + length (fields r)
+  over-count [] = omega arith
+  over-count (b ∷ a) = omega (arith, bar-count b (a ++ r), over-count a)
+
+-- A step over printable bytes up to a place, of which n are bars.
+pub scan-over : (s : List ℕ) (parts i till : ℕ) → Scanning s true parts i → i ≤ till → till ≤ length s → printable (take (till - i) (drop i s)) ≡ true
+    → (n : ℕ) → (n ≡ barsIn (take (till - i) (drop i s))) × (n ≤ length (take (till - i) (drop i s))) → Scanning s true (parts + n) till
+scan-over s parts i till v order h e n (g, few) =
+    let a = take (till - i) (drop i s) in
+    let r = drop till s in
+    let back : i + (till - i) ≡ till = omega arith in
+    let after : drop (till - i) (drop i s) ≡ r = drop-drop (till - i) i s ∙ ap (λ (k : ℕ). drop k s) back in
+    let d : drop i s ≡ a ++ r = sym (take-append-drop (till - i) (drop i s)) ∙ ap (λ (x : List ℕ). a ++ x) after in
+    let size : upTo 10 (drop i s) ≡ length a + upTo 10 r = ap (upTo 10) d ∙ over-size r a e in
+    let wide : length a ≡ till - i = omega (arith, length-take (till - i) (drop i s), length-drop i s) in
+    let l : firstLine (drop i s) ≡ a ++ firstLine r = ap firstLine d ∙ over-line r a e in
+    record {
+      within = h;
+      few = omega (arith, v .few, wide);
+      size = omega (arith, v .size, size, wide);
+      all = v .all ∙ ap printable l ∙ over-all (firstLine r) a e;
+      count = omega (arith, v .count, ap (λ (x : List ℕ). length (fields x)) l, over-count (firstLine r) a, g);
+    }
 
 -- Blanks.
 
@@ -227,6 +307,44 @@ trim-parts s a n (l, h) (e, k) =
       value = v;
       within = omega (arith, m, length-drop a s);
     }
+
+not-true : (b : Bool) → not b ≡ true → b ≡ false
+not-true true e = sym e
+not-true false e = refl
+
+pub tight-none : (s : List ℕ) → length s ≡ 0 → true ≡ isTight s
+unfolding isTight
+tight-none [] e = refl
+tight-none (b ∷ t) e = absurd (omega arith)
+
+pub tight-some : (s : List ℕ) → (length s ≡ 0 → ⊥) → not (eqb (getD s 0 0) 32) && not (eqb (getD s (length s - 1) 0) 32) ≡ isTight s
+unfolding isTight
+tight-some [] n = absurd (n refl)
+tight-some (b ∷ t) n = let e : suc (length t) - 1 ≡ length t = omega arith in rw e
+
+-- A field with no blank at either end is its value.
+trim-tight : (s : List ℕ) → isTight s ≡ true → trim s ≡ s
+unfolding isTight
+trim-tight [] e = refl
+trim-tight (b ∷ t) e =
+    let p = both (not (eqb b 32)) (not (eqb (getD (b ∷ t) (length t) 0) 32)) e in
+    let n : suc (length t) - 1 ≡ length t = omega arith in
+    let last : getD (b ∷ t) (suc (length t) - 1) 0 ≡ 32 → ⊥ = rw n (eqb-false _ _ (not-true _ (p .1))) in
+    let lead : dropLead (b ∷ t) ≡ b ∷ t = rw (not-true (eqb b 32) (p .0)) in
+    ap dropTrail lead ∙ sym (trail-here (b ∷ t) (suc (length t)) (trail-start (b ∷ t)) (omega arith) (omega arith) last) ∙ take-length (b ∷ t)
+
+tight-lead : (s : List ℕ) → isTight s ≡ true → 0 ≡ leadingBlanks s
+unfolding isTight
+tight-lead [] e = refl
+tight-lead (b ∷ t) e = let p = both (not (eqb b 32)) (not (eqb (getD (b ∷ t) (length t) 0) 32)) e in rw (not-true (eqb b 32) (p .0))
+
+pub trim-none : (s : List ℕ) → isTight s ≡ true → TrimmedIs s 0 (length s)
+trim-none s e = record {
+  start-is = tight-lead s e;
+  size-is = ap length (sym (trim-tight s e));
+  value = take-length s ∙ sym (trim-tight s e);
+  within = omega arith;
+}
 
 -- What `field_at` returns is the field at a.
 pub field-parts : (l : List ℕ) (a w s n : ℕ) → a ≤ length l

@@ -4,3 +4,4 @@ pub mod Digits
 pub mod Lines
 pub mod Output
 pub mod Part
+pub mod Steps

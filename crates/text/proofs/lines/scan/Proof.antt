@@ -1,59 +1,64 @@
--- `text::lines::scan` meets its contract.
-use Prim.Native.Nat.{_-_}
-use borrow.Author.Needs.{needs}
+use Prim.Native.Nat.{_-_, _+_}
+use mathlib.Core.Bool.{true}
+use mathlib.Core.Path.{_≡_, sym, _∙_}
+use native.Mathlib.Omega.{arith}
 use lib.ListN.{length}
-use mathlib.Core.Path.{sym, _∙_}
-use Rattle.text.proofs.LineLaws.{Scanning, scan-start, scan-here, scan-on, scan-plain, scan-end}
+use Rattle.text.specs.Steps.{Scanning}
+use Rattle.text.proofs.LineLaws.{scan-start, scan-over}
+use borrow.Author.Needs.{needs}
 use Rattle.text.proofs.lines.scan.Statement.{statement}
 use Rattle.text.proofs.lines.scan.Tie as tie
 
 abbrev Inv-loop : tie.InvT-loop
-Inv-loop text printable₀ fields₀ i₀ printable fields i = Scanning text printable fields i
+Inv-loop text fields₀ i₀ fields i = Scanning text true fields i
 
 abbrev μ-loop : tie.MeasureT-loop
-μ-loop text printable₀ fields₀ i₀ printable fields i = length text - i
+μ-loop text fields₀ i₀ fields i = length text - i
 
 loop-holds : tie.Need-loop-holds Inv-loop μ-loop
 loop-holds c = scan-start (c .before .args .text .now)
 
-shared-slice-read-b : tie.Need-shared-slice-read-b Inv-loop μ-loop
-shared-slice-read-b c = search needs
+sub-loop : tie.Need-sub-loop Inv-loop μ-loop
+sub-loop c = c .loop .inv .within
 
-is-plain-requires : tie.Need-is-plain-requires Inv-loop μ-loop
-is-plain-requires c κs = search needs
+add-then : tie.Need-add-then Inv-loop μ-loop
+add-then c = search needs
 
-add-i : tie.Need-add-i Inv-loop μ-loop
-add-i c = search needs
+sub-step : tie.Need-sub-step Inv-loop μ-loop
+sub-step c = search needs
+
+part-step-start : tie.Need-part-step-start Inv-loop μ-loop
+part-step-start c = search needs
+
+part-step-end : tie.Need-part-step-end Inv-loop μ-loop
+part-step-end c = search needs
+
+all-printable-requires : tie.Need-all-printable-requires Inv-loop μ-loop
+all-printable-requires c κs = search needs
+
+bars-in-requires : tie.Need-bars-in-requires Inv-loop μ-loop
+bars-in-requires c κs = search needs
+
+add-fields : tie.Need-add-fields Inv-loop μ-loop
+add-fields c = omega (arith, c .before .before .before .before .before .loop .inv .few, c .before .before .before .before .before .loop .inv .within, c .bars-in .ensures .1)
 
 loop-less : tie.Need-loop-less Inv-loop μ-loop
 loop-less c = search needs
 
 loop-again : tie.Need-loop-again Inv-loop μ-loop
-loop-again c = scan-plain _ _ _ _ (c .before .before .before .before .loop .inv) (c .before .before .before .loop-test .taken) (sym (c .before .is-plain .ensures) ∙ c .if1 .taken)
+loop-again c = scan-over (c .before .before .before .before .before .before .before .args .text .now) (c .before .before .before .before .before .loop .fields) (c .before .before .before .before .before .loop .i) (c .before .before .before .before .before .loop .i + 16) (c .before .before .before .before .before .loop .inv) (omega arith) (omega arith) (sym (c .before .before .all-printable .ensures) ∙ c .before .if1 .taken) (c .bars-in .result) (c .bars-in .ensures)
+
+scan-from-requires : tie.Need-scan-from-requires Inv-loop μ-loop
+scan-from-requires c κs = c .before .before .before .before .loop .inv
 
 returns : tie.Need-returns Inv-loop μ-loop
-returns c = scan-here _ _ _ _ (c .before .before .before .before .before .loop .inv) (c .before .before .before .before .loop-test .taken) (c .if2 .taken)
+returns c = search needs
 
-is-printable-requires : tie.Need-is-printable-requires Inv-loop μ-loop
-is-printable-requires c κs = search needs
-
-bars-requires : tie.Need-bars-requires Inv-loop μ-loop
-bars-requires c κs = search needs
-
-add-fields : tie.Need-add-fields Inv-loop μ-loop
-add-fields c = search needs
-
-add-i-2 : tie.Need-add-i-2 Inv-loop μ-loop
-add-i-2 c = search needs
-
-loop-less-2 : tie.Need-loop-less-2 Inv-loop μ-loop
-loop-less-2 c = search needs
-
-loop-again-2 : tie.Need-loop-again-2 Inv-loop μ-loop
-loop-again-2 c = scan-on _ _ _ _ (c .before .before .before .before .before .before .before .loop .inv) (c .before .before .before .before .before .before .loop-test .taken) (c .before .before .if2 .left) _ (c .before .is-printable .ensures) _ (c .bars .ensures .0)
+scan-from-requires-2 : tie.Need-scan-from-requires-2 Inv-loop μ-loop
+scan-from-requires-2 c κs = c .before .loop .inv
 
 returns-2 : tie.Need-returns-2 Inv-loop μ-loop
-returns-2 c = scan-end _ _ _ _ (c .before .loop .inv) (c .loop-test .left)
+returns-2 c = search needs
 
 pub scan-spec : {M : Type 1} → statement M
 scan-spec =
@@ -62,16 +67,17 @@ scan-spec =
     Inv-loop
     μ-loop
     loop-holds
-    shared-slice-read-b
-    is-plain-requires
-    add-i
+    sub-loop
+    add-then
+    sub-step
+    part-step-start
+    part-step-end
+    all-printable-requires
+    bars-in-requires
+    add-fields
     loop-less
     loop-again
+    scan-from-requires
     returns
-    is-printable-requires
-    bars-requires
-    add-fields
-    add-i-2
-    loop-less-2
-    loop-again-2
+    scan-from-requires-2
     returns-2)
