@@ -11,12 +11,24 @@ use Rattle.text.specs.Part.{starts}
 use Rattle.text.proofs.Table.{below}
 use Rattle.refusal.specs.declared.Kind.the-variants.{WrongForm}
 use Rattle.value.specs.Characters.{alphanumeric}
+use Rattle.value.specs.Check.{lessValue}
+use Rattle.value.specs.declared.Value.{Value}
+use Rattle.value.specs.declared.Value.the-variants as Values
 use Rattle.value.specs.Designation.{isNumberedComet, permID, isMinorPlanet, isComet, provID, artSat}
 use Rattle.value.specs.Numeral.{isDigits, isCount}
 use Rattle.element.specs.Form.{valueOf, checkOf, faultOf, hasValue}
 use Rattle.element.specs.Table.{elements, forms, formOf}
 use Rattle.element.specs.declared.form.Form.the-variants.{Unknown}
 use Rattle.element.specs.declared.form.Check.the-variants.{Fine, Bad}
+
+-- A value tells the same fault without its number.
+pub less-check : (v : Value) → checkOf (lessValue v) ≡ checkOf v
+less-check (Values.Bad kind) = refl
+less-check Values.NoValue = refl
+less-check (Values.Whole whole) = refl
+less-check (Values.Decimal whole places) = refl
+less-check (Values.Time day microseconds) = refl
+less-check (Values.Angle units) = refl
 
 -- An absent element has no fault.
 pub fault-absent : (index : ℕ) → faultOf index [] ≡ Fine

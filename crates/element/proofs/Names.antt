@@ -12,16 +12,12 @@ use Rattle.text.specs.Part.{same}
 use Rattle.text.proofs.Bools.{T-true}
 use Rattle.text.proofs.Parts.{same-is}
 use Rattle.text.proofs.Table.{passes, below}
-use Rattle.element.specs.Names.{allNames}
+use Rattle.element.specs.Names.{allNames, nameStarts}
 use Rattle.element.specs.Table.{elements, names, nameOf, indexIn, indexOf}
-
--- Where each name starts among all of them, and where the last one ends.
-abbrev pub starts : List ℕ
-starts = 0 ∷ 6 ∷ 12 ∷ 18 ∷ 24 ∷ 29 ∷ 37 ∷ 41 ∷ 44 ∷ 47 ∷ 50 ∷ 54 ∷ 58 ∷ 62 ∷ 66 ∷ 73 ∷ 80 ∷ 82 ∷ 85 ∷ 90 ∷ 96 ∷ 103 ∷ 109 ∷ 112 ∷ 118 ∷ 122 ∷ 129 ∷ 135 ∷ 140 ∷ 147 ∷ []
 
 -- The part of all names from where a name starts to where the next one does.
 abbrev pub cut : ℕ → List ℕ
-cut index = take (getD starts (index + 1) 0 - getD starts index 0) (drop (getD starts index 0) allNames)
+cut index = take (getD nameStarts (index + 1) 0 - getD nameStarts index 0) (drop (getD nameStarts index 0) allNames)
 
 -- The part is the name.
 cut-test : ℕ → Bool
@@ -29,18 +25,22 @@ cut-test index = same (cut index) (nameOf index)
 
 -- The part is as long as the name.
 size-test : ℕ → Bool
-size-test index = eqb (getD starts (index + 1) 0 - getD starts index 0) (length (nameOf index))
+size-test index = eqb (getD nameStarts (index + 1) 0 - getD nameStarts index 0) (length (nameOf index))
 
 -- The name does not start after the next one.
 order-test : ℕ → Bool
-order-test index = leb (getD starts index 0) (getD starts (index + 1) 0)
+order-test index = leb (getD nameStarts index 0) (getD nameStarts (index + 1) 0)
+
+-- The next name, or the end, lies within all names.
+inside-test : ℕ → Bool
+inside-test index = leb (getD nameStarts (index + 1) 0) (length allNames)
 
 -- The start is a byte.
 start-test : ℕ → Bool
-start-test place = ltb (getD starts place 0) 256
+start-test place = ltb (getD nameStarts place 0) 256
 
 -- Every start is a byte.
-pub start-small : (place : ℕ) → place < 30 → getD starts place 0 < 256
+pub start-small : (place : ℕ) → place < 30 → getD nameStarts place 0 < 256
 unfolding start-test
 start-small place h = ltb-true _ _ (T-true _ (below start-test 30 tt place h))
 
@@ -50,13 +50,17 @@ module _ (index : ℕ) (h : index < elements) where
   unfolding cut-test same
   cut-is = same-is _ _ (T-true _ (below cut-test elements tt index h))
 
-  pub size-is : getD starts (index + 1) 0 - getD starts index 0 ≡ length (nameOf index)
+  pub size-is : getD nameStarts (index + 1) 0 - getD nameStarts index 0 ≡ length (nameOf index)
   unfolding size-test
   size-is = eqb→eq _ _ (below size-test elements tt index h)
 
-  pub in-order : getD starts index 0 ≤ getD starts (index + 1) 0
+  pub in-order : getD nameStarts index 0 ≤ getD nameStarts (index + 1) 0
   unfolding order-test
   in-order = leb→le _ _ (below order-test elements tt index h)
+
+  pub in-all : getD nameStarts (index + 1) 0 ≤ length allNames
+  unfolding inside-test
+  in-all = leb→le _ _ (below inside-test elements tt index h)
 
 -- One name more in a search.
 module _ (all : List (List ℕ)) (name : List ℕ) (i : ℕ) (h : i < length all) where

@@ -7,8 +7,10 @@ use text::part::tail;
 ghost use mathlib.Core.Path.{_≡_};
 ghost use lib.ListN.{length};
 ghost use Rattle.text.specs.Output.{putOver, putLength};
-ghost use Rattle.element.specs.Names.{allNames};
-ghost use Rattle.element.specs.Table.{nameOf, indexOf, elementNumber};
+ghost use Prim.Native.Nat.{_<_};
+ghost use Rattle.text.specs.Part.{same};
+ghost use Rattle.element.specs.Names.{allNames, nameStarts};
+ghost use Rattle.element.specs.Table.{elements, nameOf, indexOf, elementNumber};
 
 // The names of all elements, one after the other.
 const NAMES: [u8; 147] =
@@ -52,7 +54,7 @@ const STARTS: [u8; ELEMENTS + 1] = [
 pub fn index(name: &[u8]) -> usize
     ensures { λ r. ⌜ r ≡ indexOf (now (name .entry)) ⌝ }
 {
-    index_in(&NAMES, name)
+    index_in(&NAMES, &STARTS, name)
 }
 
 // The number of the element of a name, from 1, or 0 where there is none.
@@ -82,19 +84,30 @@ pub fn name_length(index: usize) -> usize
     }
 }
 
-// The index of the element of a name; `all` is the names, one after the other.
-fn index_in(all: &[u8], name: &[u8]) -> usize
-    requires { ⌜ now all ≡ allNames ⌝ }
+// The index of the element of a name; `all` is the names, one after the other, and `starts` says where each starts.
+fn index_in(all: &[u8], starts: &[u8], name: &[u8]) -> usize
+    requires { ⌜ (now all ≡ allNames) × (now starts ≡ nameStarts) ⌝ }
     ensures { λ r. ⌜ r ≡ indexOf (now (name .entry)) ⌝ }
 {
     let mut i: usize = 0;
     while i < ELEMENTS {
-        if same(name, name_in(all, i)) {
+        if is_name(all, starts, name, i) {
             return i;
         }
         i += 1;
     }
     ELEMENTS
+}
+
+// Whether a text is the name of the element of an index.
+fn is_name(all: &[u8], starts: &[u8], name: &[u8], index: usize) -> bool
+    requires { ⌜ (now all ≡ allNames) × (now starts ≡ nameStarts) × (index < elements) ⌝ }
+    ensures { λ r. ⌜ r ≡ same (now (name .entry)) (nameOf index) ⌝ }
+{
+    let next = index + 1;
+    let from = starts[index] as usize;
+    let till = starts[next] as usize;
+    same(name, &all[from..till])
 }
 
 // The name of an element, empty past the last one; `all` is the names, one after the other.

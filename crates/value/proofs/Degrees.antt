@@ -1,18 +1,21 @@
 -- Laws of degrees: how long their text is, and how large they are in units.
-use Prim.Native.Nat.{ℕ, _+_, _-_, _*_, _^_, _≤_}
-use mathlib.Core.Path.{_≡_}
+use Prim.Native.Nat.{ℕ, _+_, _-_, _*_, _^_, _≤_, _<_}
+use mathlib.Core.Path.{_≡_, ap, sym, _∙_}
 use mathlib.Core.Bool.{true, _&&_, _||_}
 use mathlib.Core.List.{List}
+use native.Mathlib.Nat.{lt-of-lt-of-le, mul-assoc, mul-le-mul-right, mul-lt-mul-of-pos-right}
 use native.Mathlib.Omega.{arith}
 use lib.Dec.{eqb, leb, ltb}
-use lib.ListN.{length, getD, take}
+use lib.ListN.{length, getD, take, drop, take-append-drop}
+use lib.Pow.{pow-add}
 use borrow.Author.Tests.{leb-true}
 use Rattle.text.specs.Digits.{number}
 use Rattle.text.proofs.Bools.{both}
-use Rattle.text.proofs.Numbers.{number-front, number-scaled}
+use Rattle.text.proofs.Numbers.{number-front, number-scaled, pow-below}
 use Rattle.value.specs.Angle.{isDegrees, isRightAscension, units}
 use Rattle.value.specs.Decimal.{isDecimal, places}
-use Rattle.value.specs.Numeral.{digits, noLeadingZero}
+use Rattle.value.specs.Numeral.{digits, noLeadingZero, part}
+use Rattle.value.proofs.Numerals.{number-append, number-places}
 
 -- Degrees have few digits and at most nine places.
 pub degrees-small : (most : ℕ) (s : List ℕ) → isDegrees most s ≡ true → (digits s ≤ most) × (places s ≤ 9)
@@ -41,3 +44,18 @@ units-front s h k = rw (number-front s (omega (arith, degrees-length s)))
 pub units-small : (s : List ℕ) → digits s ≤ 3 → places s ≤ 9 → units s ≤ 10000000000000
 unfolding units
 units-small s h k = number-scaled s (9 - places s) 13 (omega (arith, degrees-length s))
+
+-- Degrees whose integer part is below a limit are below it.
+pub units-below : (s : List ℕ) (limit : ℕ) → places s ≤ 9 → part 0 (digits s) s < limit → units s < limit * 1000000000
+unfolding units places part
+units-below s limit few h =
+    let p = number 0 (take (digits s) s) in
+    let k = length s - digits s - 1 in
+    let whole : number 0 s ≡ number p (drop (digits s) s) =
+    ap (number 0) (sym (take-append-drop (digits s) s)) ∙ number-append 0 (take (digits s) s) (drop (digits s) s) in
+    let small : number 0 s < (p + 1) * 10 ^ k = rw whole (number-places p s) in
+    let nine : k + (9 - k) ≡ 9 = omega arith in
+    let at-most : p + 1 ≤ limit = omega (arith, h) in
+    let e : (p + 1) * 10 ^ k * 10 ^ (9 - k) ≡ (p + 1) * 1000000000 =
+    mul-assoc (p + 1) (10 ^ k) (10 ^ (9 - k)) ∙ ap (λ (x : ℕ). (p + 1) * x) (sym (pow-add 10 k (9 - k)) ∙ ap (λ (x : ℕ). 10 ^ x) nine) in
+    lt-of-lt-of-le (rw e at (mul-lt-mul-of-pos-right small (pow-below 0 (9 - k) (omega arith)))) (mul-le-mul-right 1000000000 at-most)

@@ -2,6 +2,7 @@ pub mod Angle
 pub mod Calendar
 pub mod Centre
 pub mod Characters
+pub mod Check
 pub mod Decimal
 pub mod Designation
 pub mod Numeral

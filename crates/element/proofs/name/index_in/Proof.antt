@@ -13,29 +13,20 @@ use Rattle.text.specs.Part.{same}
 use Rattle.element.proofs.name.index_in.Tie as tie
 
 abbrev Inv-loop : tie.InvT-loop
-Inv-loop all name i₀ i = (i ≤ 29) × (indexOf name ≡ i + indexIn (drop i names) name)
+Inv-loop all starts name i₀ i = (i ≤ 29) × (indexOf name ≡ i + indexIn (drop i names) name)
 
 abbrev μ-loop : tie.MeasureT-loop
-μ-loop all name i₀ i = 29 - i
+μ-loop all starts name i₀ i = 29 - i
 
 loop-holds : tie.Need-loop-holds Inv-loop μ-loop
 unfolding indexOf
 loop-holds c = (zero-le, omega arith)
 
-name-in-requires : tie.Need-name-in-requires Inv-loop μ-loop
-name-in-requires c κs = search needs
-
-same-requires : tie.Need-same-requires Inv-loop μ-loop
-same-requires c κs = search needs
+is-name-requires : tie.Need-is-name-requires Inv-loop μ-loop
+is-name-requires c κs = search needs
 
 returns : tie.Need-returns Inv-loop μ-loop
-returns c =
-    let args = c .before .before .before .before .before .before .before .args in
-    let loop = c .before .before .before .before .loop in
-    let name-in = c .before .before .name-in in
-    let loop-test = c .before .before .before .loop-test in
-    let e : same (args .name .now) (getD names (loop .i) []) ≡ true = rw (name-in .ensures) at (sym (c .before .same .ensures) ∙ c .if1 .taken) in
-    omega (arith, index-yes names (args .name .now) (loop .i) (loop-test .taken) e)
+returns c = omega (arith, index-yes names (c .before .before .before .before .before .before .before .args .name .now) (c .before .before .before .loop .i) (c .before .before .loop-test .taken) (sym (c .before .is-name .ensures) ∙ c .if1 .taken))
 
 add-i : tie.Need-add-i Inv-loop μ-loop
 add-i c = search needs
@@ -44,20 +35,10 @@ loop-less : tie.Need-loop-less Inv-loop μ-loop
 loop-less c = search needs
 
 loop-again : tie.Need-loop-again Inv-loop μ-loop
-loop-again c =
-    let args = c .before .before .before .before .before .before .before .args in
-    let loop = c .before .before .before .before .loop in
-    let name-in = c .before .before .name-in in
-    let loop-test = c .before .before .before .loop-test in
-    let e : same (args .name .now) (getD names (loop .i) []) ≡ false = rw (name-in .ensures) at (sym (c .before .same .ensures) ∙ c .if1 .left) in
-    (omega arith, omega (arith, index-no names (args .name .now) (loop .i) (loop-test .taken) e))
+loop-again c = (omega arith, omega (arith, index-no names (c .before .before .before .before .before .before .before .args .name .now) (c .before .before .before .loop .i) (c .before .before .loop-test .taken) (sym (c .before .is-name .ensures) ∙ c .if1 .left)))
 
 returns-2 : tie.Need-returns-2 Inv-loop μ-loop
-returns-2 c =
-    let loop = c .before .loop in
-    let args = c .before .before .before .before .args in
-    let e : loop .i ≡ 29 = omega arith in
-    omega (arith, index-end (args .name .now) (loop .i) e)
+returns-2 c = let e : c .before .loop .i ≡ 29 = omega arith in omega (arith, index-end (c .before .before .before .before .before .args .name .now) (c .before .loop .i) e)
 
 pub index-in-spec : {M : Type 1} → statement M
 index-in-spec =
@@ -66,8 +47,7 @@ index-in-spec =
     Inv-loop
     μ-loop
     loop-holds
-    name-in-requires
-    same-requires
+    is-name-requires
     returns
     add-i
     loop-less

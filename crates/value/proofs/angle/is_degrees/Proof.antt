@@ -1,11 +1,7 @@
--- `value::angle::is_degrees` meets its contract.
+use Rattle.value.specs.Angle.{isDegrees}
 use borrow.Author.Needs.{needs}
 use Rattle.value.proofs.angle.is_degrees.Statement.{statement}
-use Rattle.value.specs.Angle.{isDegrees}
 use Rattle.value.proofs.angle.is_degrees.Tie as tie
-
-digits-requires : tie.Need-digits-requires
-digits-requires c κs = search needs
 
 is-decimal-requires : tie.Need-is-decimal-requires
 is-decimal-requires c κs = search needs
@@ -18,9 +14,8 @@ no-leading-zero-requires c κs = search needs
 
 returns : tie.Need-returns
 unfolding isDegrees
-returns c = rw (c .no-leading-zero .ensures, c .before .places .ensures, c .before .before .is-decimal .ensures, c .before .before .before .digits .ensures)
+returns c = rw (c .no-leading-zero .ensures, c .before .places .ensures, c .before .before .is-decimal .ensures, c .before .before .before .before .pre)
 
 pub is-degrees-spec : {M : Type 1} → statement M
 is-degrees-spec =
-    tie.close
-    (tie.spec digits-requires is-decimal-requires places-requires no-leading-zero-requires returns)
+    tie.close (tie.spec is-decimal-requires places-requires no-leading-zero-requires returns)

@@ -1,11 +1,7 @@
--- `value::decimal::is_decimal` meets its contract.
-use borrow.Author.Needs.{needs}
 use Rattle.value.proofs.Numerals.{decimal-once}
+use borrow.Author.Needs.{needs}
 use Rattle.value.proofs.decimal.is_decimal.Statement.{statement}
 use Rattle.value.proofs.decimal.is_decimal.Tie as tie
-
-digits-requires : tie.Need-digits-requires
-digits-requires c κs = search needs
 
 tail-requires : tie.Need-tail-requires
 tail-requires c κs = search needs
@@ -14,7 +10,7 @@ is-pointed-requires : tie.Need-is-pointed-requires
 is-pointed-requires c κs = search needs
 
 returns : tie.Need-returns
-returns c = rw (c .is-pointed .ensures, c .before .tail .ensures, c .before .before .digits .ensures) (decimal-once (c .before .before .before .before .args .text .now))
+returns c = rw (c .is-pointed .ensures, c .before .tail .ensures, c .before .before .before .pre) (decimal-once (c .before .before .before .args .text .now))
 
 pub is-decimal-spec : {M : Type 1} → statement M
-is-decimal-spec = tie.close (tie.spec digits-requires tail-requires is-pointed-requires returns)
+is-decimal-spec = tie.close (tie.spec tail-requires is-pointed-requires returns)

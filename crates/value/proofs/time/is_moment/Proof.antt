@@ -1,47 +1,61 @@
--- `value::time::is_moment` meets its contract.
+use native.Mathlib.Omega.{arith}
+use mathlib.Core.Path.{refl}
+use Rattle.value.proofs.Moments.{time-two, four-is}
+use Rattle.value.specs.Time.{isMoment}
 use borrow.Author.Needs.{needs}
 use Rattle.value.proofs.time.is_moment.Statement.{statement}
-use Rattle.value.specs.Time.{isMoment}
 use Rattle.value.proofs.time.is_moment.Tie as tie
 
-part-requires : tie.Need-part-requires
-part-requires c κs = search needs
+two-requires : tie.Need-two-requires
+two-requires c κs = time-two (c .before .args .text .now) 0 (c .before .pre) (omega arith) refl refl
 
-part-requires-2 : tie.Need-part-requires-2
-part-requires-2 c κs = search needs
+mul-is-date : tie.Need-mul-is-date
+mul-is-date c = omega (arith, c .two .ensures .1)
 
-part-requires-3 : tie.Need-part-requires-3
-part-requires-3 c κs = search needs
+two-requires-2 : tie.Need-two-requires-2
+two-requires-2 c κs = time-two (c .before .before .args .text .now) 2 (c .before .before .pre) (omega arith) refl refl
+
+add-is-date : tie.Need-add-is-date
+add-is-date c = omega (arith, c .before .two .ensures .1, c .two2 .ensures .1)
+
+two-requires-3 : tie.Need-two-requires-3
+two-requires-3 c κs = time-two (c .before .before .before .args .text .now) 5 (c .before .before .before .pre) (omega arith) refl refl
+
+two-requires-4 : tie.Need-two-requires-4
+two-requires-4 c κs = time-two (c .before .before .before .before .args .text .now) 8 (c .before .before .before .before .pre) (omega arith) refl refl
 
 is-date-requires : tie.Need-is-date-requires
 is-date-requires c κs = search needs
 
-part-requires-4 : tie.Need-part-requires-4
-part-requires-4 c κs = search needs
+two-requires-5 : tie.Need-two-requires-5
+two-requires-5 c κs = time-two (c .before .before .before .before .before .before .args .text .now) 11 (c .before .before .before .before .before .before .pre) (omega arith) refl refl
 
-part-requires-5 : tie.Need-part-requires-5
-part-requires-5 c κs = search needs
+two-requires-6 : tie.Need-two-requires-6
+two-requires-6 c κs = time-two (c .before .before .before .before .before .before .before .args .text .now) 14 (c .before .before .before .before .before .before .before .pre) (omega arith) refl refl
 
-part-requires-6 : tie.Need-part-requires-6
-part-requires-6 c κs = search needs
+two-requires-7 : tie.Need-two-requires-7
+two-requires-7 c κs = time-two (c .before .before .before .before .before .before .before .before .args .text .now) 17 (c .before .before .before .before .before .before .before .before .pre) (omega arith) refl refl
 
 is-clock-requires : tie.Need-is-clock-requires
 is-clock-requires c κs = search needs
 
 returns : tie.Need-returns
 unfolding isMoment
-returns c = rw (c .is-clock .ensures, c .before .part6 .ensures, c .before .before .part5 .ensures, c .before .before .before .part4 .ensures, c .before .before .before .before .is-date .ensures, c .before .before .before .before .before .part3 .ensures, c .before .before .before .before .before .before .part2 .ensures, c .before .before .before .before .before .before .before .part .ensures)
+returns c = rw (c .is-clock .ensures, c .before .two7 .ensures .0, c .before .before .two6 .ensures .0, c .before .before .before .two5 .ensures .0, c .before .before .before .before .is-date .ensures, c .before .before .before .before .before .two4 .ensures .0, c .before .before .before .before .before .before .two3 .ensures .0, c .before .before .before .before .before .before .before .two2 .ensures .0, c .before .before .before .before .before .before .before .before .two .ensures .0, four-is (c .before .before .before .before .before .before .before .before .before .before .args .text .now) (time-two (c .before .before .before .before .before .before .before .before .before .before .args .text .now) 2 (c .before .before .before .before .before .before .before .before .before .before .pre) (omega arith) refl refl))
 
 pub is-moment-spec : {M : Type 1} → statement M
 is-moment-spec =
     tie.close
     (tie.spec
-    part-requires
-    part-requires-2
-    part-requires-3
+    two-requires
+    mul-is-date
+    two-requires-2
+    add-is-date
+    two-requires-3
+    two-requires-4
     is-date-requires
-    part-requires-4
-    part-requires-5
-    part-requires-6
+    two-requires-5
+    two-requires-6
+    two-requires-7
     is-clock-requires
     returns)

@@ -12,7 +12,7 @@ is-time-requires : tie.Need-is-time-requires
 is-time-requires c κs = search needs
 
 is-moment-requires : tie.Need-is-moment-requires
-is-moment-requires c κs = search needs
+is-moment-requires c κs = sym (c .before .is-time .ensures) ∙ c .if1 .taken
 
 day-of-requires : tie.Need-day-of-requires
 day-of-requires c κs = search needs

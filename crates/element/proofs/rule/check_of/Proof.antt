@@ -1,7 +1,7 @@
--- `element::form::check_of` meets its contract.
+-- `element::rule::check_of` meets its contract.
 use borrow.Author.Needs.{needs}
-use Rattle.element.proofs.form.check_of.Statement.{statement}
-use Rattle.element.proofs.form.check_of.Tie as tie
+use Rattle.element.proofs.rule.check_of.Statement.{statement}
+use Rattle.element.proofs.rule.check_of.Tie as tie
 
 enum-known-value : tie.Need-enum-known-value
 enum-known-value c = search needs

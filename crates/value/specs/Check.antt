@@ -1,0 +1,24 @@
+-- What the checks of values promise, which give the fault of a text and not its value. A reviewer of the rules can skip this file.
+use Prim.Native.Nat.{ℕ, _+_, _<_}
+use mathlib.Core.Path.{_≡_}
+use mathlib.Core.Bool.{true}
+use mathlib.Core.List.{List}
+use lib.ListN.{length, getD}
+use Rattle.text.specs.Class.{isDigit}
+use Rattle.value.specs.declared.Value.{Value}
+use Rattle.value.specs.declared.Value.the-variants.{Bad, NoValue, Whole, Decimal, Time, Angle}
+
+-- A fault as it is; a right text without its value.
+abbrev pub lessValue : Value → Value
+lessValue (Bad kind) = Bad kind
+lessValue NoValue = NoValue
+lessValue (Whole whole) = NoValue
+lessValue (Decimal whole places) = NoValue
+lessValue (Time day microseconds) = NoValue
+lessValue (Angle units) = NoValue
+
+-- Two digits stand in a text from a place on.
+pub record TwoDigits (text : List ℕ) (from : ℕ) : Type 0 where
+  pub inside : from + 1 < length text
+  pub tens : isDigit (getD text from 0) ≡ true
+  pub ones : isDigit (getD text (from + 1) 0) ≡ true
