@@ -1,4 +1,4 @@
--- What the checks of values promise, which give the fault of a text and not its value. A reviewer of the rules can skip this file.
+-- What a check gives of a value: its fault alone.
 use Prim.Native.Nat.{ℕ, _+_, _<_}
 use mathlib.Core.Path.{_≡_}
 use mathlib.Core.Bool.{true}
@@ -17,7 +17,7 @@ lessValue (Decimal whole places) = NoValue
 lessValue (Time day microseconds) = NoValue
 lessValue (Angle units) = NoValue
 
--- Two digits stand in a text from a place on.
+-- For the contract of a private function: two digits stand in a text from a place on.
 pub record TwoDigits (text : List ℕ) (from : ℕ) : Type 0 where
   pub inside : from + 1 < length text
   pub tens : isDigit (getD text from 0) ≡ true
