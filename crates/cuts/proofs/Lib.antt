@@ -13,7 +13,9 @@ pub mod RunGroups
 pub mod RunsWanted
 -- Steps of the code.
 pub mod BlockLaws
+pub mod LeastLaws
 pub mod LookLaws
+pub mod TailLaws
 pub mod FillLaws
 pub mod WalkLaws
 pub mod PressLaws

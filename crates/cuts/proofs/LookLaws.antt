@@ -1,196 +1,279 @@
--- Steps of looking for the best first block: one run more, and what each sum is bounded by.
-use mathlib.Core.Path.{_≡_, refl, sym, ap, ap₂, _∙_, subst}
-use mathlib.Core.Bool.{Bool, true, false}
+-- Steps of looking at the ends of the first block: one end more, and what each sum is bounded by.
+use mathlib.Core.Path.{_≡_, refl, sym, ap, ap₂, _∙_}
 use mathlib.Core.List.{List, [], _∷_}
-use Prim.Native.Nat.{ℕ, _≤_, _<_, zero, suc, _+_, _-_}
+use Prim.Native.Nat.{ℕ, _≤_, _<_, zero, suc, _+_, _-_, _^_}
 use native.Mathlib.Omega.{arith}
 use lib.ListN.{length, take, getD}
-use borrow.Author.Tests.{leb-true, le-leb, lt-leb}
-use lib.Dec.{leb}
 use lib.Bits.{bitOr}
+use lib.Seq.{take-all}
 use native.Mathlib.Numerals.{add-one}
+use native.Mathlib.Decide.{decLe}
 use native.Mathlib.Nat.{zero-add}
 use mir.Syntax.{w64}
 use mir.Val.{Fits}
 use Rattle.cuts.specs.Runs.{runsOf}
-use Rattle.cuts.specs.Cheapest.{pick, lastLeast}
-use Rattle.cuts.specs.Block.{rowLimit, textLimit, Row, row, union, valueBytes, rowCount, nameLengths, nameBytes, bytesOf}
-use Rattle.cuts.specs.Look.{blockLimit, firstCost, Looked, Small}
-use Rattle.cuts.specs.declared.search.Look.{Look}
+use Rattle.cuts.specs.Block.{rowLimit, textLimit, Row, row, union, valueBytes, rowCount, bytesOf}
+use Rattle.cuts.specs.Look.{blockLimit, headOf, endCost, LeastIn, Looked, IsFull, LookedNear, LookedFar, Small}
+use Rattle.cuts.specs.declared.block.Head.{Head}
+use Rattle.cuts.specs.declared.ends.Look.{Look}
 use Rattle.cuts.proofs.SumLaws.{runs-length, noRow, runs-at, union-take, values-take, count-take, values-take-le, count-take-le, block-take}
+use Rattle.cuts.proofs.LeastLaws.{least-one, least-take, least-leave}
 
 -- ---- one step, over any runs
 
-pick-both : (f : ℕ → ℕ) (b : Bool) (c d m n : ℕ) → c ≡ f m → d ≡ f n → pick b c d ≡ f (pick b m n)
-pick-both f true c d m n p q = p
-pick-both f false c d m n p q = q
+module _ (runs : List Row) (after : List ℕ) where
+  -- The first end looked at.
+  look-start : (r : Row) (h : Head) (c : ℕ) → 0 < length runs → getD runs 0 noRow ≡ r → h ≡ headOf (r .set) → c ≡ bytesOf (h .columns) (r .size) (r .count) + getD after 0 0 → c ≤ getD after 0 0 + blockLimit
+      → Looked runs after (record { head = h; values = r .size; rows = r .count; from = 0; end = 0; best = 0; cost = c })
+  unfolding union valueBytes rowCount
+  look-start r h c g e a q z =
+      let u : r .set ≡ union 0 (take 1 runs) = sym (union-take runs 0 g ∙ ap (λ (x : Row). x .set) e) in
+      let v : r .size ≡ valueBytes (take 1 runs) = sym (values-take runs 0 g ∙ zero-add _ ∙ ap (λ (x : Row). x .size) e) in
+      let y : r .count ≡ rowCount (take 1 runs) = sym (count-take runs 0 g ∙ zero-add _ ∙ ap (λ (x : Row). x .count) e) in
+      record {
+        inside = g;
+        head = a ∙ ap headOf u;
+        values = v;
+        rows = y;
+        least = least-one (endCost runs after) 0;
+        cost = q ∙ ap (λ (n : ℕ). n + getD after 0 0) (sym (block-take runs 0 _ _ _ (ap (λ (x : Head). x .columns) a ∙ u) v y));
+        low = z;
+      }
 
-pick-low : (b : Bool) (c d m : ℕ) → leb c d ≡ b → d ≤ m → pick b c d ≤ m
-pick-low true c d m e h = omega (arith, leb-true c d e)
-pick-low false c d m e h = h
+  -- The end looked at last, as the first of those looked at.
+  look-anew : (l : Look) (c : ℕ) → Looked runs after l → c ≡ bytesOf (l .head .columns) (l .values) (l .rows) + getD after (l .end) 0 → c ≤ getD after (l .end) 0 + blockLimit
+      → Looked runs after (record { head = l .head; values = l .values; rows = l .rows; from = l .end; end = l .end; best = l .end; cost = c })
+  look-anew l c s q z = record {
+    inside = s .inside;
+    head = s .head;
+    values = s .values;
+    rows = s .rows;
+    least = least-one (endCost runs after) (l .end);
+    cost =
+        q ∙ ap (λ (n : ℕ). n + getD after (l .end) 0)
+        (sym (block-take runs (l .end) _ _ _ (ap (λ (x : Head). x .columns) (s .head)) (s .values) (s .rows)));
+    low = z;
+  }
 
--- The look after one run more, r: n are the bytes of the names, c the cost with its end, and b says whether that is the best.
-abbrev further : Look → Row → ℕ → ℕ → ℕ → Bool → Look
-further l r i n c b = record {
-  columns = bitOr (l .columns) (r .set);
-  names = n;
-  values = l .values + r .size;
-  rows = l .rows + r .count;
-  more = pick b i (l .more);
-  cost = pick b c (l .cost);
-}
+  -- One end more, with the run r: h is the head of its block, and c what it costs.
+  module _ (l : Look) (r : Row) (h : Head) (c : ℕ) (s : Looked runs after l) (i : suc (l .end) < length runs) (e : getD runs (suc (l .end)) noRow ≡ r)
+      (a : h ≡ headOf (bitOr (l .head .columns) (r .set))) (q : c ≡ bytesOf (h .columns) (l .values + r .size) (l .rows + r .count) + getD after (suc (l .end)) 0) where
+    head-on : h ≡ headOf (union 0 (take (suc (suc (l .end))) runs))
+    head-on =
+        a ∙ ap headOf (sym (union-take runs (suc (l .end)) i
+        ∙ ap₂ bitOr (sym (ap (λ (x : Head). x .columns) (s .head))) (ap (λ (x : Row). x .set) e)))
 
-look-suc : (runs : List Row) (after : List ℕ) (k : ℕ) (l : Look) (r : Row) (n c : ℕ) (b : Bool) → suc k < length runs → Looked runs after k l → getD runs (suc k) noRow ≡ r
-    → n ≡ nameBytes nameLengths (bitOr (l .columns) (r .set))
-    → c ≡ bytesOf (bitOr (l .columns) (r .set)) (l .values + r .size) (l .rows + r .count) + getD after (suc k) 0 → leb c (l .cost) ≡ b
-    → Looked runs after (suc k) (further l r (suc k) n c b)
-unfolding lastLeast
-look-suc runs after k l r n c b h s e a q t =
-    let f : ℕ → ℕ = firstCost runs after in
-    let u : bitOr (l .columns) (r .set) ≡ union 0 (take (suc (suc k)) runs) =
-    sym (union-take runs (suc k) h ∙ ap₂ bitOr (sym (s .columns)) (ap (λ (x : Row). x .set) e)) in
-    let v : l .values + r .size ≡ valueBytes (take (suc (suc k)) runs) =
-    sym (values-take runs (suc k) h ∙ ap₂ _+_ (sym (s .values)) (ap (λ (x : Row). x .size) e)) in
-    let z : l .rows + r .count ≡ rowCount (take (suc (suc k)) runs) =
-    sym (count-take runs (suc k) h ∙ ap₂ _+_ (sym (s .rows)) (ap (λ (x : Row). x .count) e)) in
-    let w : c ≡ f (suc k) = q ∙ ap (λ (n : ℕ). n + getD after (suc k) 0) (sym (block-take runs (suc k) _ _ _ u v z)) in
-    let t′ : leb (f (suc k)) (f (lastLeast f k)) ≡ b = ap₂ leb (sym w) (sym (s .cost ∙ ap f (s .more))) ∙ t in
-    record {
-      columns = u;
-      names = a;
-      values = v;
-      rows = z;
-      more = ap₂ (λ (x : Bool) (m : ℕ). pick x (suc k) m) (sym t′) (s .more);
-      cost = pick-both f b c (l .cost) (suc k) (l .more) w (s .cost);
-      low = pick-low b c (l .cost) (getD after 0 0 + blockLimit) t (s .low);
+    values-on : l .values + r .size ≡ valueBytes (take (suc (suc (l .end))) runs)
+    values-on = sym (values-take runs (suc (l .end)) i ∙ ap₂ _+_ (sym (s .values)) (ap (λ (x : Row). x .size) e))
+
+    rows-on : l .rows + r .count ≡ rowCount (take (suc (suc (l .end))) runs)
+    rows-on = sym (count-take runs (suc (l .end)) i ∙ ap₂ _+_ (sym (s .rows)) (ap (λ (x : Row). x .count) e))
+
+    cost-on : c ≡ endCost runs after (suc (l .end))
+    cost-on =
+        q ∙ ap (λ (n : ℕ). n + getD after (suc (l .end)) 0)
+        (sym (block-take runs (suc (l .end)) _ _ _ (ap (λ (x : Head). x .columns) head-on) values-on rows-on))
+
+    look-take : c ≤ l .cost
+        → Looked runs after (record { head = h; values = l .values + r .size; rows = l .rows + r .count; from = l .from; end = suc (l .end); best = suc (l .end); cost = c })
+    look-take t = record {
+      inside = i;
+      head = head-on;
+      values = values-on;
+      rows = rows-on;
+      least = least-take (endCost runs after) (l .from) (l .end) (l .best) (s .least) (omega (arith, cost-on, s .cost));
+      cost = cost-on;
+      low = omega (arith, s .low);
     }
 
-look-step : (runs : List Row) (after : List ℕ) (k : ℕ) (l : Look) (r : Row) (n c : ℕ) (b : Bool) → k + 1 < length runs → Looked runs after k l → getD runs (k + 1) noRow ≡ r
-    → n ≡ nameBytes nameLengths (bitOr (l .columns) (r .set))
-    → c ≡ bytesOf (bitOr (l .columns) (r .set)) (l .values + r .size) (l .rows + r .count) + getD after (k + 1) 0 → leb c (l .cost) ≡ b
-    → Looked runs after (k + 1) (further l r (k + 1) n c b)
-look-step runs after k l r n c b = rw (add-one k) (look-suc runs after k l r n c b)
-
-look-start : (runs : List Row) (after : List ℕ) (r : Row) (n c : ℕ) → 0 < length runs → getD runs 0 noRow ≡ r → n ≡ nameBytes nameLengths (r .set)
-    → c ≡ bytesOf (r .set) (r .size) (r .count) + getD after 0 0 → bytesOf (r .set) (r .size) (r .count) < blockLimit
-    → Looked runs after 0 (record { columns = r .set; names = n; values = r .size; rows = r .count; more = 0; cost = c })
-unfolding lastLeast union valueBytes rowCount
-look-start runs after r n c h e a q z =
-    let u : r .set ≡ union 0 (take 1 runs) = sym (union-take runs 0 h ∙ ap (λ (x : Row). x .set) e) in
-    let v : r .size ≡ valueBytes (take 1 runs) = sym (values-take runs 0 h ∙ zero-add _ ∙ ap (λ (x : Row). x .size) e) in
-    let y : r .count ≡ rowCount (take 1 runs) = sym (count-take runs 0 h ∙ zero-add _ ∙ ap (λ (x : Row). x .count) e) in
-    record {
-      columns = u;
-      names = a;
-      values = v;
-      rows = y;
-      more = refl;
-      cost = q ∙ ap (λ (n : ℕ). n + getD after 0 0) (sym (block-take runs 0 _ _ _ u v y));
-      low = omega arith;
+    look-leave : l .cost < c
+        → Looked runs after (record { head = h; values = l .values + r .size; rows = l .rows + r .count; from = l .from; end = suc (l .end); best = l .best; cost = l .cost })
+    look-leave t = record {
+      inside = i;
+      head = head-on;
+      values = values-on;
+      rows = rows-on;
+      least = least-leave (endCost runs after) (l .from) (l .end) (l .best) (s .least) (omega (arith, cost-on, s .cost));
+      cost = s .cost;
+      low = s .low;
     }
 
--- The bytes of the values and the rows stay within the whole's.
-sums-suc : (runs : List Row) (after : List ℕ) (k : ℕ) (l : Look) (r : Row) → suc k < length runs → Looked runs after k l → getD runs (suc k) noRow ≡ r
-    → (l .values + r .size ≤ valueBytes runs) × (l .rows + r .count ≤ rowCount runs)
-sums-suc runs after k l r h s e = (
-  omega (arith, s .values, ap (λ (x : Row). x .size) e, values-take runs (suc k) h, values-take-le runs (suc (suc k))),
-  omega (arith, s .rows, ap (λ (x : Row). x .count) e, count-take runs (suc k) h, count-take-le runs (suc (suc k))),
-)
+take-step : (runs : List Row) (after : List ℕ) (l : Look) (r : Row) (h : Head) (c : ℕ) → Looked runs after l → l .end + 1 < length runs → getD runs (l .end + 1) noRow ≡ r
+    → h ≡ headOf (bitOr (l .head .columns) (r .set)) → c ≡ bytesOf (h .columns) (l .values + r .size) (l .rows + r .count) + getD after (l .end + 1) 0 → c ≤ l .cost
+    → Looked runs after (record { head = h; values = l .values + r .size; rows = l .rows + r .count; from = l .from; end = l .end + 1; best = l .end + 1; cost = c })
+take-step runs after l r h c = rw (add-one (l .end)) (look-take runs after l r h c)
 
-sums-step : (runs : List Row) (after : List ℕ) (k : ℕ) (l : Look) (r : Row) → k + 1 < length runs → Looked runs after k l → getD runs (k + 1) noRow ≡ r
-    → (l .values + r .size ≤ valueBytes runs) × (l .rows + r .count ≤ rowCount runs)
-sums-step runs after k l r = rw (add-one k) (sums-suc runs after k l r)
+leave-step : (runs : List Row) (after : List ℕ) (l : Look) (r : Row) (h : Head) (c : ℕ) → Looked runs after l → l .end + 1 < length runs → getD runs (l .end + 1) noRow ≡ r
+    → h ≡ headOf (bitOr (l .head .columns) (r .set)) → c ≡ bytesOf (h .columns) (l .values + r .size) (l .rows + r .count) + getD after (l .end + 1) 0 → l .cost < c
+    → Looked runs after (record { head = h; values = l .values + r .size; rows = l .rows + r .count; from = l .from; end = l .end + 1; best = l .best; cost = l .cost })
+leave-step runs after l r h c = rw (add-one (l .end)) (look-leave runs after l r h c)
 
+-- A run is no more than all of them.
 run-le : (runs : List Row) (k : ℕ) → (getD runs k noRow .size ≤ valueBytes runs) × (getD runs k noRow .count ≤ rowCount runs)
 unfolding valueBytes rowCount
 run-le [] k = (omega arith, omega arith)
 run-le (x ∷ runs) zero = (omega arith, omega arith)
 run-le (x ∷ runs) (suc k) = (omega (arith, run-le runs k .0), omega (arith, run-le runs k .1))
 
--- ---- the same as the code has it: w and n are the size and the rows that were read, a the bytes of the names, c those of the block
+-- The head of a block with some columns is the head with its own.
+pub head-own : (h : Head) (columns : ℕ) → h ≡ headOf columns → h ≡ headOf (h .columns)
+head-own h columns e = e ∙ ap headOf (sym (ap (λ (x : Head). x .columns) e))
+
+-- ---- the same as the code has it: w and n are the size and the rows that were read, h the head, c the bytes of the block
 
 module _ (sets sizes counts after : List ℕ) (small : Small sets sizes counts after) where
   abbrev runs : List Row
   runs = runsOf sets sizes counts
 
-  at : (i : ℕ) → getD runs i noRow ≡ row (getD sets i 0) (getD sizes i 0) (getD counts i 0)
-  at i = runs-at sets sizes counts i (small .same) (small .also)
+  pub run-at : (i : ℕ) → getD runs i noRow ≡ row (getD sets i 0) (getD sizes i 0) (getD counts i 0)
+  run-at i = runs-at sets sizes counts i (small .same) (small .also)
 
-  long : length runs ≡ length sets
-  long = runs-length sets sizes counts (small .same) (small .also)
+  pub runs-long : length runs ≡ length sets
+  runs-long = runs-length sets sizes counts (small .same) (small .also)
 
   pub start-small : (w : ℕ) → w ≡ getD sizes 0 0 → w ≤ textLimit
-  start-small w e = omega (arith, ap (λ (x : Row). x .size) (at 0), run-le runs 0 .0, small .sum)
+  start-small w e = omega (arith, ap (λ (x : Row). x .size) (run-at 0), run-le runs 0 .0, small .sum)
 
   pub start-few : (n : ℕ) → n ≡ getD counts 0 0 → n ≤ rowLimit
-  start-few n e = omega (arith, ap (λ (x : Row). x .count) (at 0), run-le runs 0 .1, small .all)
+  start-few n e = omega (arith, ap (λ (x : Row). x .count) (run-at 0), run-le runs 0 .1, small .all)
 
   pub cost-fits : (c i : ℕ) → c < blockLimit → Fits w64 (c + getD after i 0)
   cost-fits c i h = record { fits = omega (arith, small .low i) }
 
-  pub start-looked : (w n a c : ℕ) → w ≡ getD sizes 0 0 → n ≡ getD counts 0 0 → a ≡ nameBytes nameLengths (getD sets 0 0)
-      → (c ≡ bytesOf (getD sets 0 0) w n) × (c < blockLimit)
-      → Looked runs after 0 (record { columns = getD sets 0 0; names = a; values = w; rows = n; more = 0; cost = c + getD after 0 0 })
-  start-looked w n a c e g b h =
-      look-start runs after (row (getD sets 0 0) w n) a (c + getD after 0 0) (omega (arith, long, small .some))
-      (at 0 ∙ ap₂ (row (getD sets 0 0)) (sym e) (sym g)) b (ap (λ (x : ℕ). x + getD after 0 0) (h .0))
-      (omega (arith, h .0, h .1))
+  pub start-looked : (w n c : ℕ) (h : Head) → h ≡ headOf (getD sets 0 0) → w ≡ getD sizes 0 0 → n ≡ getD counts 0 0 → (c ≡ bytesOf (h .columns) w n) × (c < blockLimit)
+      → Looked runs after (record { head = h; values = w; rows = n; from = 0; end = 0; best = 0; cost = c + getD after 0 0 })
+  start-looked w n c h a e g q =
+      look-start runs after (row (getD sets 0 0) w n) h (c + getD after 0 0) (omega (arith, runs-long, small .some))
+      (run-at 0 ∙ ap₂ (row (getD sets 0 0)) (sym e) (sym g)) a (ap (λ (x : ℕ). x + getD after 0 0) (q .0)) (omega (arith, q .1))
 
-  module _ (l : Look) (k w n : ℕ) (h : k + 1 < length sets) (s : Looked runs after k l) where
-    module _ (e : w ≡ getD sizes (k + 1) 0) (g : n ≡ getD counts (k + 1) 0) where
-      run-is : getD runs (k + 1) noRow ≡ row (getD sets (k + 1) 0) w n
-      run-is = at (k + 1) ∙ ap₂ (row (getD sets (k + 1) 0)) (sym e) (sym g)
+  module _ (l : Look) (s : Looked runs after l) where
+    -- The sums stay within the limits.
+    pub values-small : l .values ≤ textLimit
+    values-small = omega (arith, s .values, values-take-le runs (suc (l .end)), small .sum)
 
-      step-both : (l .values + w ≤ valueBytes runs) × (l .rows + n ≤ rowCount runs)
-      step-both = sums-step runs after k l (row (getD sets (k + 1) 0) w n) (omega (arith, long)) s run-is
+    pub rows-few : l .rows ≤ rowLimit
+    rows-few = omega (arith, s .rows, count-take-le runs (suc (l .end)), small .all)
 
-      module _ (a c : ℕ) (d : a ≡ nameBytes nameLengths (bitOr (l .columns) (getD sets (k + 1) 0)))
-          (q : (c ≡ bytesOf (bitOr (l .columns) (getD sets (k + 1) 0)) (l .values + w) (l .rows + n)) × (c < blockLimit)) where
-        step-looked : (b : Bool) → leb (c + getD after (k + 1) 0) (l .cost) ≡ b
-            → Looked runs after (k + 1) (further l (row (getD sets (k + 1) 0) w n) (k + 1) a (c + getD after (k + 1) 0) b)
-        step-looked b t =
-            look-step runs after k l (row (getD sets (k + 1) 0) w n) a (c + getD after (k + 1) 0) b (omega (arith, long)) s run-is d
-            (ap (λ (x : ℕ). x + getD after (k + 1) 0) (q .0)) t
+    pub head-known : l .head ≡ headOf (l .head .columns)
+    head-known = head-own (l .head) _ (s .head)
 
-        pub step-take : c + getD after (k + 1) 0 ≤ l .cost
-            → Looked runs after (k + 1) (record {
-              columns = bitOr (l .columns) (getD sets (k + 1) 0);
-              names = a;
+    pub end-inside : l .end < length sets
+    end-inside = omega (arith, s .inside, runs-long)
+
+    pub end-after : l .end < length after
+    end-after = omega (arith, end-inside, small .rest)
+
+    pub anew-looked : (c : ℕ) → (c ≡ bytesOf (l .head .columns) (l .values) (l .rows)) × (c < blockLimit)
+        → Looked runs after (record { head = l .head; values = l .values; rows = l .rows; from = l .end; end = l .end; best = l .end; cost = c + getD after (l .end) 0 })
+    anew-looked c q = look-anew runs after l (c + getD after (l .end) 0) s (ap (λ (x : ℕ). x + getD after (l .end) 0) (q .0)) (omega (arith, q .1))
+
+    module _ (k : l .end + 1 < length sets) where
+      run-on : suc (l .end) < length runs
+      run-on = omega (arith, runs-long)
+
+      pub step-small : (w : ℕ) → w ≡ getD sizes (l .end + 1) 0 → l .values + w ≤ textLimit
+      step-small w e =
+          omega (arith, s .values, values-take runs (suc (l .end)) run-on, values-take-le runs (suc (suc (l .end))), ap (λ (x : Row). x .size) (run-at (suc (l .end))), ap (λ (x : ℕ). getD sizes x 0) (add-one (l .end)), small .sum)
+
+      pub values-fit : (w : ℕ) → w ≡ getD sizes (l .end + 1) 0 → Fits w64 (l .values + w)
+      values-fit w e = record { fits = omega (arith, step-small w e) }
+
+      pub step-few : (n : ℕ) → n ≡ getD counts (l .end + 1) 0 → l .rows + n ≤ rowLimit
+      step-few n e =
+          omega (arith, s .rows, count-take runs (suc (l .end)) run-on, count-take-le runs (suc (suc (l .end))), ap (λ (x : Row). x .count) (run-at (suc (l .end))), ap (λ (x : ℕ). getD counts x 0) (add-one (l .end)), small .all)
+
+      pub rows-fit : (n : ℕ) → n ≡ getD counts (l .end + 1) 0 → Fits w64 (l .rows + n)
+      rows-fit n e = record { fits = omega (arith, step-few n e) }
+
+      pub step-after : l .end + 1 < length after
+      step-after = omega (arith, small .rest)
+
+      module _ (w n c : ℕ) (h : Head) (e : w ≡ getD sizes (l .end + 1) 0) (g : n ≡ getD counts (l .end + 1) 0)
+          (a : h ≡ headOf (bitOr (l .head .columns) (getD sets (l .end + 1) 0))) (q : (c ≡ bytesOf (h .columns) (l .values + w) (l .rows + n)) × (c < blockLimit)) where
+        run-read : getD runs (l .end + 1) noRow ≡ row (getD sets (l .end + 1) 0) w n
+        run-read = run-at (l .end + 1) ∙ ap₂ (row (getD sets (l .end + 1) 0)) (sym e) (sym g)
+
+        pub step-take : c + getD after (l .end + 1) 0 ≤ l .cost
+            → Looked runs after (record {
+              head = h;
               values = l .values + w;
               rows = l .rows + n;
-              more = k + 1;
-              cost = c + getD after (k + 1) 0;
+              from = l .from;
+              end = l .end + 1;
+              best = l .end + 1;
+              cost = c + getD after (l .end + 1) 0;
             })
-        step-take t = step-looked true (le-leb _ _ t)
+        step-take =
+            take-step runs after l (row (getD sets (l .end + 1) 0) w n) h (c + getD after (l .end + 1) 0) s (omega (arith, runs-long)) run-read a
+            (ap (λ (x : ℕ). x + getD after (l .end + 1) 0) (q .0))
 
-        pub step-leave : l .cost < c + getD after (k + 1) 0
-            → Looked runs after (k + 1) (record {
-              columns = bitOr (l .columns) (getD sets (k + 1) 0);
-              names = a;
+        pub step-leave : l .cost < c + getD after (l .end + 1) 0
+            → Looked runs after (record {
+              head = h;
               values = l .values + w;
               rows = l .rows + n;
-              more = l .more;
+              from = l .from;
+              end = l .end + 1;
+              best = l .best;
               cost = l .cost;
             })
-        step-leave t = step-looked false (lt-leb _ _ t)
+        step-leave =
+            leave-step runs after l (row (getD sets (l .end + 1) 0) w n) h (c + getD after (l .end + 1) 0) s (omega (arith, runs-long)) run-read a
+            (ap (λ (x : ℕ). x + getD after (l .end + 1) 0) (q .0))
 
-  module _ (l : Look) (k w : ℕ) (h : k + 1 < length sets) (s : Looked runs after k l) where
-    pub step-small : w ≡ getD sizes (k + 1) 0 → l .values + w ≤ textLimit
-    step-small e = omega (arith, step-both l k w (getD counts (k + 1) 0) h s e refl .0, small .sum)
+-- ---- up to the first end with which the block has all columns
 
-    pub values-fit : w ≡ getD sizes (k + 1) 0 → Fits w64 (l .values + w)
-    values-fit e = record { fits = omega (arith, step-small e) }
+-- All ends looked at but the last are too soon.
+pub record Nearing (runs : List Row) (after : List ℕ) (l : Look) : Type 0 where
+  pub looked : Looked runs after l
+  pub start : l .from ≡ 0
+  pub soon : (k : ℕ) → k < l .end → IsFull runs k → ⊥
 
-    pub step-few : w ≡ getD counts (k + 1) 0 → l .rows + w ≤ rowLimit
-    step-few e = omega (arith, step-both l k (getD sizes (k + 1) 0) w h s refl e .1, small .all)
+pub near-start : (runs : List Row) (after : List ℕ) (l : Look) → Looked runs after l × (l .from ≡ 0) × (l .end ≡ 0) → Nearing runs after l
+near-start runs after l s = record { looked = s .0; start = s .1; soon = λ k i e. omega (arith, s .2) }
 
-    pub rows-fit : w ≡ getD counts (k + 1) 0 → Fits w64 (l .rows + w)
-    rows-fit e = record { fits = omega (arith, step-few e) }
+module _ (runs : List Row) (after : List ℕ) (columns : ℕ) (all : columns ≡ union 0 runs) (l : Look) (s : Nearing runs after l) where
+  -- The columns with the last end are those that the head says.
+  head-is : l .head .columns ≡ union 0 (take (suc (l .end)) runs)
+  head-is = ap (λ (x : Head). x .columns) (s .looked .head)
 
--- All runs are looked at.
-pub look-end : (runs : List Row) (after : List ℕ) (k n : ℕ) (l : Look) → k < n → n ≤ k + 1 → Looked runs after k l → Looked runs after (n - 1) l
-look-end runs after k n l h g s =
-    let e : k ≡ n - 1 = omega arith in
-    subst (λ (i : ℕ). Looked runs after i l) e s
+  module _ (h : l .head .columns ≡ columns → ⊥) where
+    -- Where the last end is too soon there is another.
+    pub near-inside : l .end + 1 < length runs
+    near-inside = go (decLe (length runs) (suc (l .end)))
+      where
+        go : Dec (length runs ≤ suc (l .end)) → l .end + 1 < length runs
+        go (yes g) = absurd (h (head-is ∙ ap (union 0) (take-all (suc (l .end)) runs g) ∙ sym all))
+        go (no g) = omega arith
 
-pub ruleset look-needs = (start-small, start-few, cost-fits, start-looked, values-fit, step-small, step-few, rows-fit, step-take, step-leave)
+    pub near-more : (m : Look) → Looked runs after m × (m .from ≡ l .from) × (m .end ≡ l .end + 1) → Nearing runs after m
+    near-more m t = record {
+      looked = t .0;
+      start = t .1 ∙ s .start;
+      soon = λ k i. go k i (decLe (suc k) (l .end));
+    }
+      where
+        go : (k : ℕ) → k < m .end → Dec (suc k ≤ l .end) → IsFull runs k → ⊥
+        go k i (yes g) f = s .soon k g f
+        go k i (no g) f =
+            let e : l .end ≡ k = omega (arith, t .2) in
+            h (head-is ∙ (ap (λ (n : ℕ). union 0 (take (suc n) runs)) e ∙ (f ∙ sym all)))
+
+  -- Where it is not, it is the first.
+  pub near-end : l .head .columns ≡ columns → LookedNear runs after l
+  near-end e = record {
+    looked = s .looked;
+    start = s .start;
+    full = sym head-is ∙ e ∙ all;
+    first = λ k f. go k f (decLe (l .end) k);
+  }
+    where
+      go : (k : ℕ) → IsFull runs k → Dec (l .end ≤ k) → l .end ≤ k
+      go k f (yes g) = g
+      go k f (no g) = absurd (s .soon k (omega arith) f)
+
+pub ruleset first-needs = (head-own, start-small, start-few, cost-fits, start-looked)
+
+pub ruleset anew-needs = (head-known, values-small, rows-few, end-inside, end-after, cost-fits, anew-looked)
+
+pub ruleset further-needs = (head-own, head-known, step-small, values-fit, step-few, rows-fit, step-after, cost-fits, step-take, step-leave)

@@ -8,8 +8,10 @@ ghost use Rattle.cuts.specs.Runs.{Ready, Room, ReadyRuns, PlannedRuns, r
 
 pub mod block;
 mod cut_list;
+mod ends;
 mod runs;
 mod search;
+mod tail;
 
 // The most rows that the search can cut. This is a bound of its own, not the reader's limit on data lines.
 const ROW_LIMIT: usize = 1024;

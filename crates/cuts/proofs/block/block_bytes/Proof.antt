@@ -4,35 +4,17 @@ use Rattle.cuts.proofs.BlockLaws.{block-needs}
 use Rattle.cuts.proofs.block.block_bytes.Statement.{statement}
 use Rattle.cuts.proofs.block.block_bytes.Tie as tie
 
-column-count-requires : tie.Need-column-count-requires
-column-count-requires c κs = search (needs, block-needs)
-
 add-result : tie.Need-add-result
 add-result c = search (needs, block-needs)
-
-add-result-2 : tie.Need-add-result-2
-add-result-2 c = search (needs, block-needs)
-
-add-result-3 : tie.Need-add-result-3
-add-result-3 c = search (needs, block-needs)
 
 mul-result : tie.Need-mul-result
 mul-result c = search (needs, block-needs)
 
-add-result-4 : tie.Need-add-result-4
-add-result-4 c = search (needs, block-needs)
+add-result-2 : tie.Need-add-result-2
+add-result-2 c = search (needs, block-needs)
 
 returns : tie.Need-returns
 returns c = search (needs, block-needs)
 
 pub block-bytes-spec : {M : Type 1} → statement M
-block-bytes-spec =
-    tie.close
-    (tie.spec
-    column-count-requires
-    add-result
-    add-result-2
-    add-result-3
-    mul-result
-    add-result-4
-    returns)
+block-bytes-spec = tie.close (tie.spec add-result mul-result add-result-2 returns)

@@ -1,26 +1,30 @@
--- `cuts::search::fill_all` meets its contract. The invariant: the costs and the first blocks are filled in from the run i on.
+-- `cuts::search::fill_all` meets its contract. The invariant: the costs and the first blocks are filled in from the run i on, whose tail is known.
 use borrow.Author.Needs.{needs}
-use Prim.Native.Nat.{_≤_}
+use native.Mathlib.Omega.{arith}
+use Prim.Native.Nat.{_≤_, _+_}
 use mathlib.Core.Path.{_≡_}
-use lib.ListN.{length}
+use lib.ListN.{length, drop}
 use Rattle.cuts.specs.Runs.{runsOf}
 use Rattle.cuts.specs.Block.{allMore}
-use Rattle.cuts.specs.Look.{Filled}
-use Rattle.cuts.proofs.FillLaws.{fill-all-needs}
+use Rattle.cuts.specs.Look.{Filled, TailIs}
+use Rattle.cuts.proofs.FillLaws.{fill-all-needs, fit-filled, filled-back, tail-back}
 use Rattle.cuts.proofs.search.fill_all.Statement.{statement}
 use Rattle.cuts.proofs.search.fill_all.Tie as tie
 
 abbrev Inv-loop : tie.InvT-loop
-Inv-loop sets sizes counts costs₀ firsts₀ n i₀ costs firsts i = (n ≡ length sets) × (i ≤ length sets) × Filled allMore (runsOf sets sizes counts) i costs firsts
+Inv-loop sets sizes counts costs₀ firsts₀ n tail₀ i₀ costs firsts tail i = (n ≡ length sets) × (i ≤ length sets) × Filled allMore (runsOf sets sizes counts) i costs firsts × TailIs (drop i (runsOf sets sizes counts)) (drop (i + 1) costs) tail
 
 abbrev μ-loop : tie.MeasureT-loop
-μ-loop sets sizes counts costs₀ firsts₀ n i₀ costs firsts i = i
+μ-loop sets sizes counts costs₀ firsts₀ n tail₀ i₀ costs firsts tail i = i
 
 mul-costs : tie.Need-mul-costs Inv-loop μ-loop
 mul-costs c = search (needs, fill-all-needs)
 
 slice-write-costs : tie.Need-slice-write-costs Inv-loop μ-loop
 slice-write-costs c = search (needs, fill-all-needs)
+
+head-of-requires : tie.Need-head-of-requires Inv-loop μ-loop
+head-of-requires c κs = search (needs, fill-all-needs)
 
 loop-holds : tie.Need-loop-holds Inv-loop μ-loop
 loop-holds c = search (needs, fill-all-needs)
@@ -29,7 +33,7 @@ sub-i : tie.Need-sub-i Inv-loop μ-loop
 sub-i c = search (needs, fill-all-needs)
 
 fill-run-requires : tie.Need-fill-run-requires Inv-loop μ-loop
-fill-run-requires c κs = search (needs, fill-all-needs)
+fill-run-requires c κs = (fit-filled _ _ _ _ _ _ _ _ _ (c .before .before .before .before .before .before .before .before .before .before .pre) (c .before .before .before .loop .inv .2), omega (arith, c .before .before .before .loop .inv .1, c .before .before .loop-test .taken), filled-back _ _ _ _ _ (c .before .before .loop-test .taken) (c .before .before .before .loop .inv .2), tail-back _ _ _ _ (c .before .before .loop-test .taken) (c .before .before .before .loop .inv .3))
 
 loop-less : tie.Need-loop-less Inv-loop μ-loop
 loop-less c = search (needs, fill-all-needs)
@@ -54,6 +58,7 @@ fill-all-spec =
     μ-loop
     mul-costs
     slice-write-costs
+    head-of-requires
     loop-holds
     sub-i
     fill-run-requires

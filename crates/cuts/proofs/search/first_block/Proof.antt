@@ -1,54 +1,38 @@
--- `cuts::search::first_block` meets its contract. The invariant: the first run and the next k have been looked at.
+-- `cuts::search::first_block` meets its contract.
 use borrow.Author.Needs.{needs}
-use Prim.Native.Nat.{_<_, _-_}
-use lib.ListN.{length}
-use Rattle.cuts.specs.Runs.{runsOf}
-use Rattle.cuts.specs.Look.{Looked}
-use Rattle.cuts.proofs.LookLaws.{look-end}
+use Rattle.cuts.proofs.TailLaws.{columns-all, passed-within, found-all}
 use Rattle.cuts.proofs.search.first_block.Statement.{statement}
 use Rattle.cuts.proofs.search.first_block.Tie as tie
 
-abbrev Inv-loop : tie.InvT-loop
-Inv-loop sets sizes counts after look₀ k₀ look k = (k < length sets) × Looked (runsOf sets sizes counts) after k look
+shared-slice-read-columns : tie.Need-shared-slice-read-columns
+shared-slice-read-columns c = search needs
 
-abbrev μ-loop : tie.MeasureT-loop
-μ-loop sets sizes counts after look₀ k₀ look k = length sets - k
+look-near-requires : tie.Need-look-near-requires
+look-near-requires c κs = (c .before .before .before .before .before .before .pre .0, columns-all _ _ _ _ (c .before .before .before .before .before .before .pre .0) _ (c .before .before .before .before .before .before .pre .1))
 
-look-first-requires : tie.Need-look-first-requires Inv-loop μ-loop
-look-first-requires c κs = search (needs, look-end)
+pass-on-requires : tie.Need-pass-on-requires
+pass-on-requires c κs = c .before .before .before .before .before .before .before .pre
 
-loop-holds : tie.Need-loop-holds Inv-loop μ-loop
-loop-holds c = search (needs, look-end)
+look-far-requires : tie.Need-look-far-requires
+look-far-requires c κs = (c .before .before .before .before .before .before .before .before .pre .0, c .before .look-near .ensures .looked, passed-within _ _ _ _ (c .before .before .before .before .before .before .before .before .pre .0) _ (c .pass-on .ensures))
 
-add-loop : tie.Need-add-loop Inv-loop μ-loop
-add-loop c = search (needs, look-end)
+tail-of-requires : tie.Need-tail-of-requires
+tail-of-requires c κs = search needs
 
-look-further-requires : tie.Need-look-further-requires Inv-loop μ-loop
-look-further-requires c κs = search (needs, look-end)
+best-of-requires : tie.Need-best-of-requires
+best-of-requires c κs = search needs
 
-add-k : tie.Need-add-k Inv-loop μ-loop
-add-k c = search (needs, look-end)
-
-loop-less : tie.Need-loop-less Inv-loop μ-loop
-loop-less c = search (needs, look-end)
-
-loop-again : tie.Need-loop-again Inv-loop μ-loop
-loop-again c = search (needs, look-end)
-
-returns : tie.Need-returns Inv-loop μ-loop
-returns c = search (needs, look-end)
+returns : tie.Need-returns
+returns c = found-all _ _ _ _ (c .before .before .before .before .before .before .before .before .before .before .before .pre .0) _ _ _ _ _ (c .before .before .before .before .look-near .ensures) (c .before .before .look-far .ensures) (c .before .before .before .pass-on .ensures) (c .before .tail-of .ensures) (c .best-of .ensures)
 
 pub first-block-spec : {M : Type 1} → statement M
 first-block-spec =
     tie.close
     (tie.spec
-    Inv-loop
-    μ-loop
-    look-first-requires
-    loop-holds
-    add-loop
-    look-further-requires
-    add-k
-    loop-less
-    loop-again
+    shared-slice-read-columns
+    look-near-requires
+    pass-on-requires
+    look-far-requires
+    tail-of-requires
+    best-of-requires
     returns)
