@@ -1,7 +1,7 @@
 -- The search over runs, from the costs and first blocks that are filled in to the plan. It holds for any limit `more` of a block.
 use mathlib.Core.Path.{_≡_, refl, sym, ap, _∙_}
 use mathlib.Core.List.{List, [], _∷_, _++_}
-use Prim.Native.Nat.{ℕ, _≤_, zero, suc, _+_}
+use Prim.Native.Nat.{ℕ, _≤_, _<_, zero, suc, _+_}
 use native.Mathlib.Omega.{arith}
 use lib.ListN.{length, take, drop, getD, List·getD-append}
 use lib.Seq.{length-take-le, take-at}
@@ -36,13 +36,13 @@ module _ (more : Row → List Row → ℕ) where
       ap (λ (l : List ℕ). total (take (suc (firstMore blockBytes more x xs)) (n ∷ counts)) ∷ l) (rows-at xs counts (firstMore blockBytes more x xs) (omega arith))
   rows-at (x ∷ xs) (n ∷ counts) (suc skip) e = rows-at xs counts skip (omega arith)
 
-module _ (sets sizes counts before costs₀ firsts₀ : List ℕ) (ready : ReadyRuns sets sizes counts before) (hc : length costs₀ ≡ rowLimit + 1) (hf : length firsts₀ ≡ rowLimit) where
+module _ (sets sizes counts before costs₀ firsts₀ : List ℕ) (ready : ReadyRuns sets sizes counts before) (hc : length sets < length costs₀) (hf : length sets ≤ length firsts₀) where
   -- The parts of the lent lists that are filled in are long enough.
   pub part-costs : length sets + 1 ≡ length (take (length sets + 1) costs₀)
-  part-costs = sym (length-take-le (length sets + 1) costs₀ (omega (arith, ready .few)))
+  part-costs = sym (length-take-le (length sets + 1) costs₀ (omega arith))
 
   pub part-firsts : length sets ≡ length (take (length sets) firsts₀)
-  part-firsts = sym (length-take-le (length sets) firsts₀ (omega (arith, ready .few)))
+  part-firsts = sym (length-take-le (length sets) firsts₀ (omega arith))
 
   pub ready-fit : Fit sets sizes counts (take (length sets + 1) costs₀) (take (length sets) firsts₀)
   ready-fit = record {

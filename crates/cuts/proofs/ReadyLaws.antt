@@ -11,11 +11,12 @@ use native.Mathlib.Numerals.{add-one}
 use mir.Syntax.{w64}
 use mir.Val.{Fits}
 use lib.Seq.{take-all}
-use Rattle.cuts.specs.Runs.{Ready}
+use Rattle.cuts.specs.Runs.{fewRuns, press, runsIn, Ready}
 use Rattle.cuts.specs.Plan.{ready, Planned, Answered, Promised}
 use Rattle.cuts.specs.Block.{rowLimit, textLimit, rowsOf, total, valueBytes, allMore}
 use Rattle.cuts.specs.declared.Plan.{Plan}
 use Rattle.cuts.proofs.SumLaws.{total-take}
+use Rattle.cuts.proofs.PressLaws.{rows-few, press-short, press-count}
 
 -- ---- the sizes together
 
@@ -118,3 +119,14 @@ module _ (sets sizes cuts : List ℕ) (b : Bool) (is : b ≡ ready sets sizes cu
       (record { blocks = refl; bytes = refl; kept = refl })
 
 pub ruleset promise-needs = (is-ready, is-planned, is-unplanned)
+
+-- ---- the lists
+
+-- The runs are few where their count says so, and no more than the rows.
+pub runs-few : (sets sizes cuts : List ℕ) (n : ℕ) → Ready sets sizes cuts → n ≡ runsIn sets → n ≤ fewRuns → length (press (rowsOf sets sizes)) ≤ fewRuns
+runs-few sets sizes cuts n ready e h = omega (arith, press-count sets sizes (ready .same))
+
+pub runs-within : (sets sizes cuts : List ℕ) → Ready sets sizes cuts → length (press (rowsOf sets sizes)) ≤ rowLimit
+runs-within sets sizes cuts ready = omega (arith, press-short (rowsOf sets sizes), rows-few sets sizes, ready .few)
+
+pub ruleset list-needs = (runs-few, runs-within)

@@ -1,7 +1,7 @@
 -- The chosen cutting of the runs, in rows, is the wanted cutting of the rows.
 use mathlib.Core.Path.{_≡_, refl, sym, ap, ap₂, _∙_, subst₂}
 use mathlib.Core.List.{List, [], _∷_, _++_, map}
-use Prim.Native.Nat.{ℕ, _≤_, zero, suc, _-_}
+use Prim.Native.Nat.{ℕ, _+_, _≤_, _<_, zero, suc, _-_}
 use native.Mathlib.Omega.{arith}
 use lib.ListN.{length, take, length-append, length-map, length-drop}
 use Rattle.cuts.specs.Runs.{runsOf, press, inRows, Ready, ReadyRuns, PlannedRuns, Pressed}
@@ -13,10 +13,10 @@ use Rattle.cuts.specs.declared.Plan.{Plan}
 use Rattle.cuts.proofs.Trades.{SameSet, together-all, row-trade}
 use Rattle.cuts.proofs.GroupCuts.{flat, groupRows, cost-rows, Chains, SameLimit, wanted-rows}
 use Rattle.cuts.proofs.RunGroups.{group, AllOne, rows-one, flat-group, chains-group, summary, block-flat, press-is, in-rows-groups}
-use Rattle.cuts.proofs.PressLaws.{count-rows, press-both}
+use Rattle.cuts.proofs.PressLaws.{count-rows, rows-few, press-both, press-short}
 use Rattle.cuts.proofs.CutLaws.{cost-map, wanted-map}
 use Rattle.cuts.proofs.LikeRows.{Trade}
-use Rattle.cuts.proofs.SumLaws.{end, end-is}
+use Rattle.cuts.proofs.SumLaws.{end, end-is, runs-length}
 use Rattle.cuts.proofs.CheapestLaws.{chosen-right, chosen-wanted}
 
 -- ---- for any limit `more` of a block of rows and `moreRuns` of a block of runs that agree
@@ -92,15 +92,20 @@ module _ (sets sizes runSets runSizes runCounts before : List ℕ) (j : ℕ) (re
   long : (l : List ℕ) → length (end l j) ≡ length l - j
   long l = ap length (end-is l j) ∙ length-drop j l
 
+  -- There are no more runs than rows.
+  runs-few : length (end runSets j) ≤ length sets
+  runs-few =
+      omega (arith, ap length ends, press-short (rowsOf sets sizes), rows-few sets sizes, runs-length (end runSets j) (end runSizes j) (end runCounts j) (omega (arith, long runSets, long runSizes, p .room .sizes-length)) (omega (arith, long runSets, long runCounts, p .room .counts-length)))
+
   -- The runs are ready where the rows are.
   pub ready-runs : ReadyRuns (end runSets j) (end runSizes j) (end runCounts j) before
   ready-runs = record {
     same = omega (arith, long runSets, long runSizes, p .room .sizes-length);
     also = omega (arith, long runSets, long runCounts, p .room .counts-length);
-    few = omega (arith, long runSets, p .left, ready .few);
+    few = omega (arith, runs-few, ready .few);
     sum = omega (arith, ap valueBytes ends, press-both (rowsOf sets sizes) .0, ready .sum);
     all = omega (arith, ap rowCount ends, press-both (rowsOf sets sizes) .1, count-rows sets sizes, ready .few);
-    room = omega (arith, long runSets, p .left, ready .room);
+    room = omega (arith, runs-few, ready .room);
   }
 
   -- What is planned for the runs is right for the rows.
@@ -115,5 +120,12 @@ module _ (sets sizes runSets runSizes runCounts before : List ℕ) (j : ℕ) (re
         bytes = rw (d .cut) (d .bytes ∙ cut-cost allMore allMore row-trade all-limit (rowsOf sets sizes) (rows-one sets sizes) _ _ ends q);
         kept = d .kept;
       }
+
+-- The lists for the costs and the first blocks are long enough for the runs.
+pub costs-room : (pressed costs : List ℕ) (j n : ℕ) → length pressed ≡ n → length costs ≡ n + 1 → length (end pressed j) < length costs
+costs-room pressed costs j n l e = omega (arith, ap length (end-is pressed j), length-drop j pressed)
+
+pub firsts-room : (pressed firsts : List ℕ) (j n : ℕ) → length pressed ≡ n → length firsts ≡ n → length (end pressed j) ≤ length firsts
+firsts-room pressed firsts j n l e = omega (arith, ap length (end-is pressed j), length-drop j pressed)
 
 pub ruleset rows-plan-needs = (ready-runs, planned)

@@ -1,6 +1,6 @@
 -- A reviewer can skip this file: runs of rows with one set, and what private functions know of them.
 use mathlib.Core.Path.{_≡_}
-use mathlib.Core.Bool.{Bool, true, false}
+use mathlib.Core.Bool.{Bool, true, false, cond}
 use mathlib.Core.List.{List, [], _∷_}
 use Prim.Native.Nat.{ℕ, _+_, _^_, _≤_, _<_}
 use lib.Dec.{eqb}
@@ -30,6 +30,24 @@ onto x (run ∷ runs) = joined (eqb (run .set) (x .set)) x run runs
 unfoldable pub press : List Row → List Row
 press [] = []
 press (x ∷ xs) = onto x (press xs)
+
+-- 1 where a set is another than the one before it, else 0.
+abbrev pub change : ℕ → ℕ → ℕ
+change set before = cond (eqb set before) 0 1
+
+-- How often the set changes along the sets, from the one before them.
+unfoldable pub changes : ℕ → List ℕ → ℕ
+changes before [] = 0
+changes before (set ∷ sets) = change set before + changes set sets
+
+-- How many runs rows with these sets have.
+unfoldable pub runsIn : List ℕ → ℕ
+runsIn [] = 0
+runsIn (set ∷ sets) = 1 + changes set sets
+
+-- The most runs that are cut in short lists.
+abbrev pub fewRuns : ℕ
+fewRuns = 16
 
 -- A cut list in rows, from the one in runs and the rows of the runs.
 abbrev pub inRows : List ℕ → List ℕ → List ℕ
@@ -66,13 +84,12 @@ pub record Room (sets sizes runSets runSizes runCounts : List ℕ) : Type 0 wher
   pub sum : valueBytes (rowsOf sets sizes) ≤ textLimit
   pub sizes-length : length runSizes ≡ length runSets
   pub counts-length : length runCounts ≡ length runSets
-  pub fits : length sets ≤ length runSets
+  pub fits : length (press (rowsOf sets sizes)) ≤ length runSets
 
 -- The rows from i on are the runs from j on.
 pub record Pressed (sets sizes : List ℕ) (i : ℕ) (runSets runSizes runCounts : List ℕ) (j : ℕ) : Type 0 where
   pub room : Room sets sizes runSets runSizes runCounts
   pub within : j ≤ length runSets
-  pub left : length runSets + i ≤ length sets + j
   pub are : runsOf (drop j runSets) (drop j runSizes) (drop j runCounts) ≡ press (drop i (rowsOf sets sizes))
 
 -- A row of this size can join the run j.

@@ -1,6 +1,6 @@
 -- `cuts::plan_rows` meets its contract.
 use borrow.Author.Needs.{needs}
-use Rattle.cuts.proofs.RunsWanted.{rows-plan-needs}
+use Rattle.cuts.proofs.RunsWanted.{rows-plan-needs, ready-runs, costs-room, firsts-room}
 use Rattle.cuts.proofs.plan_rows.Statement.{statement}
 use Rattle.cuts.proofs.plan_rows.Tie as tie
 
@@ -44,7 +44,7 @@ part-plan-runs-end-3 : tie.Need-part-plan-runs-end-3
 part-plan-runs-end-3 c = search (needs, rows-plan-needs)
 
 plan-runs-requires : tie.Need-plan-runs-requires
-plan-runs-requires c κs = search (needs, rows-plan-needs)
+plan-runs-requires c κs = (search (needs, ready-runs), search (needs, costs-room), search (needs, firsts-room))
 
 same-length : tie.Need-same-length
 same-length c = search (needs, rows-plan-needs)
