@@ -1,5 +1,5 @@
 -- Laws of an index that notes every observation of a report.
-use Prim.Native.Nat.{ℕ, _+_, _*_, _/_, _%_, _^_, _<_}
+use Prim.Native.Nat.{ℕ, _+_, _*_, _/_, _%_, _^_, _≤_, _<_}
 use mathlib.Core.Path.{_≡_, refl, sym, ap, _∙_}
 use mathlib.Core.Bool.{Bool, true, false}
 use mathlib.Core.List.{List, []}
@@ -44,3 +44,9 @@ module _ {report : List ℕ} {index : Index} (row element : ℕ) (x : Indexed re
     value-there =
         let s = x .noted row inside .shows element known present in
         rw (s .start-is, s .length-is) (s .holds)
+
+    -- It ends in the report.
+    pub value-inside : getD (index .starts) (row * elements + element) 0 + getD (index .lengths) (row * elements + element) 0 ≤ length report
+    value-inside =
+        let s = x .noted row inside .shows element known present in
+        rw (s .start-is, s .length-is) (s .inside)

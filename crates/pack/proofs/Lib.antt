@@ -4,6 +4,7 @@ pub mod Settled
 -- Writing into the rest of the lent output.
 pub mod WritingLaws
 pub mod FieldLaws
+pub mod StandingLaws
 pub mod IndexLaws
 pub mod ColumnLaws
 pub mod BlockLaws

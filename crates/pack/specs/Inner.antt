@@ -72,6 +72,12 @@ pub record RowAsks (report : List ℕ) (index : Index) (columns output : List �
   pub columns-are : Columns columns
   pub room : length (rowLine report columns row) ≤ length output
 
+-- A text stands in the report from a start on, up to an end.
+pub record StandsTo (report : List ℕ) (start : ℕ) (text : List ℕ) (end : ℕ) : Type 0 where
+  pub ends : end ≡ start + length text
+  pub inside : end ≤ length report
+  pub is : take (length text) (drop start report) ≡ text
+
 -- ---- columns
 
 -- The set of the elements that are in one of the sets, or in the one that is given.

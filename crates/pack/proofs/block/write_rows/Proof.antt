@@ -26,32 +26,32 @@ add-row c =
     let pre = c .before .before .before .before .before .before .before .before .pre in
     omega (arith, pre .inside, pre .indexed .sets-room)
 
-sub-write-row : tie.Need-sub-write-row Inv-loop μ-loop
-sub-write-row c =
+sub-write-line : tie.Need-sub-write-line Inv-loop μ-loop
+sub-write-line c =
     let pre = c .before .before .before .before .before .before .before .before .pre in
     omega (arith, row-room pre (c .loop-test .taken) (c .before .loop .inv .1))
 
-part-write-row-start : tie.Need-part-write-row-start Inv-loop μ-loop
-part-write-row-start c =
+part-write-line-start : tie.Need-part-write-line-start Inv-loop μ-loop
+part-write-line-start c =
     let pre = c .before .before .before .before .before .before .before .before .pre in
     omega (arith, row-room pre (c .loop-test .taken) (c .before .loop .inv .1))
 
-part-write-row-end : tie.Need-part-write-row-end Inv-loop μ-loop
-part-write-row-end c = search needs
+part-write-line-end : tie.Need-part-write-line-end Inv-loop μ-loop
+part-write-line-end c = search needs
 
-write-row-requires : tie.Need-write-row-requires Inv-loop μ-loop
-write-row-requires c κs =
+write-line-requires : tie.Need-write-line-requires Inv-loop μ-loop
+write-line-requires c κs =
     let pre = c .before .before .before .before .before .before .before .before .before .pre in
     let loop = c .before .before .loop in
     row-asks pre (c .before .loop-test .taken) (loop .inv .1)
 
 add-at : tie.Need-add-at Inv-loop μ-loop
 add-at c =
-    let write-row = c .before .before .write-row in
+    let write-line = c .before .before .write-line in
     let pre = c .before .before .before .before .before .before .before .before .before .before .before .before .pre in
     let loop-test = c .before .before .before .before .loop-test in
     let loop = c .before .before .before .before .before .loop in
-    omega (arith, write-row .ensures .answer-is, row-room pre (loop-test .taken) (loop .inv .1), write-length (loop .inv .1))
+    omega (arith, write-line .ensures .answer-is, row-room pre (loop-test .taken) (loop .inv .1), write-length (loop .inv .1))
 
 add-i : tie.Need-add-i Inv-loop μ-loop
 add-i c = omega arith
@@ -64,8 +64,8 @@ loop-again c =
     let pre = c .before .before .before .before .before .before .before .before .before .before .before .before .pre in
     let loop-test = c .before .before .before .before .loop-test in
     let loop = c .before .before .before .before .before .loop in
-    let write-row = c .before .before .write-row in
-    (omega arith, write-next _ _ (rows-turn pre (loop-test .taken) (loop .inv .1)) (write-row .ensures))
+    let write-line = c .before .before .write-line in
+    (omega arith, write-next _ _ (rows-turn pre (loop-test .taken) (loop .inv .1)) (write-line .ensures))
 
 same-length : tie.Need-same-length Inv-loop μ-loop
 same-length c = write-length (c .before .loop .inv .1)
@@ -83,10 +83,10 @@ write-rows-spec =
     μ-loop
     loop-holds
     add-row
-    sub-write-row
-    part-write-row-start
-    part-write-row-end
-    write-row-requires
+    sub-write-line
+    part-write-line-start
+    part-write-line-end
+    write-line-requires
     add-at
     add-i
     loop-less

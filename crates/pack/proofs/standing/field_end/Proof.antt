@@ -1,0 +1,81 @@
+-- `pack::standing::field_end` meets its contract.
+use borrow.Author.Needs.{needs}
+use mathlib.Core.Path.{refl}
+use native.Mathlib.Omega.{arith}
+use Rattle.pack.proofs.IndexLaws.{value-inside}
+use Rattle.pack.proofs.StandingLaws.{field-there, field-absent}
+use Rattle.pack.proofs.standing.field_end.Statement.{statement}
+use Rattle.pack.proofs.standing.field_end.Tie as tie
+
+mul-if1 : tie.Need-mul-if1
+mul-if1 c = search needs
+
+shared-slice-read-if1 : tie.Need-shared-slice-read-if1
+shared-slice-read-if1 c = search needs
+
+shr-if1 : tie.Need-shr-if1
+shr-if1 c = search needs
+
+mul-entry : tie.Need-mul-entry
+mul-entry c = search needs
+
+add-entry : tie.Need-add-entry
+add-entry c = search needs
+
+mul-wide : tie.Need-mul-wide
+mul-wide c = search needs
+
+shared-slice-read-wide : tie.Need-shared-slice-read-wide
+shared-slice-read-wide c = search needs
+
+wide-requires : tie.Need-wide-requires
+wide-requires c κs = search needs
+
+mul-wide-2 : tie.Need-mul-wide-2
+mul-wide-2 c = search needs
+
+shared-slice-read-wide-2 : tie.Need-shared-slice-read-wide-2
+shared-slice-read-wide-2 c = search needs
+
+wide-requires-2 : tie.Need-wide-requires-2
+wide-requires-2 c κs = search needs
+
+add-byte-end : tie.Need-add-byte-end
+add-byte-end c = omega (arith, value-inside (c .before .before .before .before .before .before .before .before .before .before .before .args .row) (c .before .before .before .before .before .before .before .before .before .before .before .args .element) (c .before .before .before .before .before .before .before .before .before .before .before .pre .0) (c .before .before .before .before .before .before .before .before .before .before .before .pre .1) (c .before .before .before .before .before .before .before .before .before .before .before .pre .2) (c .before .before .before .before .before .if1 .taken), c .before .before .before .wide .ensures, c .wide2 .ensures, c .before .before .if2 .taken)
+
+byte-end-requires : tie.Need-byte-end-requires
+byte-end-requires c κs = search needs
+
+returns : tie.Need-returns
+returns c = field-there (c .before .before .before .before .before .before .before .before .before .before .before .before .args .row) (c .before .before .before .before .before .before .before .before .before .before .before .before .args .element) (c .before .before .before .before .before .before .before .before .before .before .before .before .pre .0) (c .before .before .before .before .before .before .before .before .before .before .before .before .pre .1) _ _ _ (c .before .before .before .before .before .before .before .before .before .before .before .before .pre .2) (c .before .before .before .before .before .before .if1 .taken) _ _ (c .before .before .before .before .wide .ensures) (c .before .before .before .if2 .taken) (c .before .wide2 .ensures) (c .byte-end .ensures)
+
+returns-2 : tie.Need-returns-2
+returns-2 c = λ h. absurd (h refl)
+
+byte-end-requires-2 : tie.Need-byte-end-requires-2
+byte-end-requires-2 c κs = search needs
+
+returns-3 : tie.Need-returns-3
+returns-3 c = field-absent (c .before .before .before .before .before .before .before .args .row) (c .before .before .before .before .before .before .before .args .element) (c .before .before .before .before .before .before .before .pre .0) (c .before .before .before .before .before .before .before .pre .1) _ _ _ (c .before .if1 .left) (c .byte-end2 .ensures)
+
+pub field-end-spec : {M : Type 1} → statement M
+field-end-spec =
+    tie.close
+    (tie.spec
+    mul-if1
+    shared-slice-read-if1
+    shr-if1
+    mul-entry
+    add-entry
+    mul-wide
+    shared-slice-read-wide
+    wide-requires
+    mul-wide-2
+    shared-slice-read-wide-2
+    wide-requires-2
+    add-byte-end
+    byte-end-requires
+    returns
+    returns-2
+    byte-end-requires-2
+    returns-3)
