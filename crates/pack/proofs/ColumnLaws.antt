@@ -45,6 +45,9 @@ columns-joined rows = ap (λ (s : ℕ). passing (isAmong s) columnOrder) (joined
 order-test : ℕ → Bool
 order-test k = ltb (getD columnOrder k 0) elements
 
+pub order-length : (order : List ℕ) → order ≡ columnOrder → length order ≡ elements
+order-length order e = ap length e
+
 pub order-known : (k : ℕ) → k < elements → getD columnOrder k 0 < elements
 unfolding order-test
 order-known k h = ltb-true _ _ (T-true _ (below order-test elements tt k h))
@@ -72,27 +75,28 @@ module _ {all : ℕ} {columns : List ℕ} {n k : ℕ} (l : Listing all columns n
   more = ap (λ (x : ℕ). passing (isAmong all) (take x columnOrder)) (add-one k)
       ∙ (ap (passing (isAmong all)) (take-suc columnOrder k 0 h) ∙ passing-append (isAmong all) (take k columnOrder) (getD columnOrder k 0))
 
-  -- An element of the set is listed.
-  pub list-in : all / 2 ^ getD columnOrder k 0 % 2 ≡ 1 → Listing all (set columns n (getD columnOrder k 0)) (n + 1) (k + 1)
-  list-in e = record {
-    most = omega arith;
-    few = omega (arith, l .few);
-    long = length-set columns n (getD columnOrder k 0) ∙ l .long;
-    are =
-        ap (λ (x : ℕ). take x (set columns n (getD columnOrder k 0))) (add-one n)
-        ∙ (take-suc-set columns n (getD columnOrder k 0) (omega (arith, l .few, l .long))
-        ∙ (ap (λ (x : List ℕ). x ++ (getD columnOrder k 0 ∷ [])) (l .are)
-        ∙ sym (more ∙ rw (eq-eqb _ _ e))));
-  }
+  module _ (element : ℕ) (is : element ≡ getD columnOrder k 0) where
+    -- An element of the set is listed.
+    pub list-in : all / 2 ^ element % 2 ≡ 1 → Listing all (set columns n element) (n + 1) (k + 1)
+    list-in e = record {
+      most = omega arith;
+      few = omega (arith, l .few);
+      long = length-set columns n element ∙ l .long;
+      are =
+          ap (λ (x : ℕ). take x (set columns n element)) (add-one n)
+          ∙ (take-suc-set columns n element (omega (arith, l .few, l .long))
+          ∙ (ap (λ (x : List ℕ). x ++ (element ∷ [])) (l .are)
+          ∙ sym (more ∙ rw (← is, eq-eqb _ _ e))));
+    }
 
-  -- Another one is not.
-  pub list-out : (all / 2 ^ getD columnOrder k 0 % 2 ≡ 1 → ⊥) → Listing all columns n (k + 1)
-  list-out e = record {
-    most = omega arith;
-    few = omega (arith, l .few);
-    long = l .long;
-    are = l .are ∙ sym (more ∙ rw (ne-eqb _ _ e) (append-nil (passing (isAmong all) (take k columnOrder))));
-  }
+    -- Another one is not.
+    pub list-out : (all / 2 ^ element % 2 ≡ 1 → ⊥) → Listing all columns n (k + 1)
+    list-out e = record {
+      most = omega arith;
+      few = omega (arith, l .few);
+      long = l .long;
+      are = l .are ∙ sym (more ∙ rw (← is, ne-eqb _ _ e) (append-nil (passing (isAmong all) (take k columnOrder))));
+    }
 
 -- All of the column order is looked at.
 pub list-end : {all : ℕ} {columns : List ℕ} {n k : ℕ} → Listing all columns n k → elements ≤ k → Listed all columns n

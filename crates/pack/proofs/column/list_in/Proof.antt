@@ -1,0 +1,72 @@
+-- `pack::column::list_in` meets its contract. The invariant: of the first k of the column order, those in the set are listed.
+use Prim.Native.Nat.{ℕ, _-_}
+use mathlib.Core.List.{List}
+use mathlib.Core.Logic.{⊎-elim}
+use mathlib.Core.Path.{sym, ap, _∙_}
+use native.Mathlib.Omega.{arith}
+use lib.ListN.{length, getD}
+use borrow.Author.Needs.{needs}
+use Rattle.pack.proofs.ColumnLaws.{order-length, order-known, Listing, list-begin, list-in, list-out, list-end}
+use Rattle.pack.proofs.column.list_in.Statement.{statement}
+use Rattle.pack.proofs.column.list_in.Tie as tie
+
+abbrev Inv-loop : tie.InvT-loop
+Inv-loop order set columns₀ n₀ k₀ columns n k = Listing set columns n k
+
+abbrev μ-loop : tie.MeasureT-loop
+μ-loop order set columns₀ n₀ k₀ columns n k = length order - k
+
+loop-holds : tie.Need-loop-holds Inv-loop μ-loop
+loop-holds c = list-begin (c .args .set) (c .args .columns .now) (c .pre .1)
+
+mul-element : tie.Need-mul-element Inv-loop μ-loop
+mul-element c = omega (arith, order-length (c .before .before .args .order .now) (c .before .before .pre .0), c .loop-test .taken)
+
+shared-slice-read-element : tie.Need-shared-slice-read-element Inv-loop μ-loop
+shared-slice-read-element c = c .before .loop-test .taken
+
+shr-if1 : tie.Need-shr-if1 Inv-loop μ-loop
+shr-if1 c = omega (arith, ap (λ (l : List ℕ). getD l (c .before .before .loop .k) 0) (c .before .before .before .pre .0), order-known (c .before .before .loop .k) (omega (arith, order-length (c .before .before .before .args .order .now) (c .before .before .before .pre .0), c .before .loop-test .taken)))
+
+mul-columns : tie.Need-mul-columns Inv-loop μ-loop
+mul-columns c = omega (arith, c .before .before .before .loop .inv .few, c .before .before .before .loop .inv .most)
+
+slice-write-columns : tie.Need-slice-write-columns Inv-loop μ-loop
+slice-write-columns c = omega (arith, c .before .before .before .loop .inv .few, c .before .before .before .loop .inv .long, order-length (c .before .before .before .before .args .order .now) (c .before .before .before .before .pre .0), c .before .before .loop-test .taken)
+
+add-n : tie.Need-add-n Inv-loop μ-loop
+add-n c = omega (arith, c .before .before .before .loop .inv .few, c .before .before .before .loop .inv .most)
+
+add-k : tie.Need-add-k Inv-loop μ-loop
+add-k c = omega (arith, c .before .before .before .loop .inv .most)
+
+loop-less : tie.Need-loop-less Inv-loop μ-loop
+loop-less c = omega (arith, c .before .before .loop-test .taken)
+
+loop-again : tie.Need-loop-again Inv-loop μ-loop
+loop-again c = ⊎-elim (λ w. rw (w .1, w .2) (list-in (c .before .before .before .loop .inv) (omega (arith, order-length (c .before .before .before .before .args .order .now) (c .before .before .before .before .pre .0), c .before .before .loop-test .taken)) _ (ap (λ (l : List ℕ). getD l (c .before .before .before .loop .k) 0) (c .before .before .before .before .pre .0)) (w .0 .taken))) (λ w. rw (w .1, w .2) (list-out (c .before .before .before .loop .inv) (omega (arith, order-length (c .before .before .before .before .args .order .now) (c .before .before .before .before .pre .0), c .before .before .loop-test .taken)) _ (ap (λ (l : List ℕ). getD l (c .before .before .before .loop .k) 0) (c .before .before .before .before .pre .0)) (w .0 .left))) (c .if1 .came)
+
+same-length : tie.Need-same-length Inv-loop μ-loop
+same-length c = c .before .loop .inv .long ∙ sym (c .before .before .pre .1)
+
+returns : tie.Need-returns Inv-loop μ-loop
+returns c = list-end (c .before .loop .inv) (omega (arith, order-length (c .before .before .args .order .now) (c .before .before .pre .0), c .loop-test .left))
+
+pub list-in-spec : {M : Type 1} → statement M
+list-in-spec =
+    tie.close
+    (tie.spec
+    Inv-loop
+    μ-loop
+    loop-holds
+    mul-element
+    shared-slice-read-element
+    shr-if1
+    mul-columns
+    slice-write-columns
+    add-n
+    add-k
+    loop-less
+    loop-again
+    same-length
+    returns)
