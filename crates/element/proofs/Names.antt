@@ -1,15 +1,16 @@
 -- Laws of the names of elements: where each lies among all of them, that its index is its place, and what bytes it has.
 use Prim.Native.Nat.{ℕ, suc, _+_, _-_, _≤_, _<_}
-use mathlib.Core.Path.{_≡_, refl, sym}
+use mathlib.Core.Path.{_≡_, refl, sym, ap, _∙_}
 use mathlib.Core.Bool.{Bool, true, false, not, _&&_}
 use mathlib.Core.List.{List, [], _∷_}
 use native.Mathlib.Numerals.{add-one}
 use lib.Dec.{T, eqb, leb, ltb, eqb→eq, leb→le}
-use lib.ListN.{length, getD, take, drop}
-use lib.Seq.{drop-cons}
+use lib.ListN.{length, getD, take, drop, length-drop}
+use lib.Seq.{drop-cons, getD-drop}
+use native.Mathlib.Omega.{arith}
 use borrow.Author.Tests.{ltb-true, eqb-false}
 use Rattle.text.specs.Part.{same}
-use Rattle.text.proofs.Bools.{T-true}
+use Rattle.text.proofs.Bools.{T-true, bools}
 use Rattle.text.proofs.Parts.{same-is}
 use Rattle.text.proofs.Table.{passes, below}
 use Rattle.element.specs.Names.{allNames, nameStarts}
@@ -85,6 +86,20 @@ index-test index = eqb (indexOf (nameOf index)) index
 pub index-name : (index : ℕ) → index < elements → indexOf (nameOf index) ≡ index
 unfolding index-test indexOf indexIn same
 index-name index h = eqb→eq _ _ (below index-test elements tt index h)
+
+-- Where a search finds a name, that name stands.
+found : (all : List (List ℕ)) (name : List ℕ) → indexIn all name < length all → same name (getD all (indexIn all name) []) ≡ true
+unfolding indexIn
+found [] name h = absurd (omega arith)
+found (first ∷ rest) name h = bools (same name first) (λ e. rw e e) (λ e. rw e (found rest name (omega (arith, rw e at h))))
+
+-- What a search from an index on finds is the index of the name: no name stands twice.
+pub index-later : (name : List ℕ) (from : ℕ) → from + indexIn (drop from names) name < elements → from + indexIn (drop from names) name ≡ indexOf name
+index-later name from h =
+    let place = indexIn (drop from names) name in
+    let inside : place < length (drop from names) = omega (arith, h, length-drop from names) in
+    let stands : same name (nameOf (from + place)) ≡ true = rw (← getD-drop from names place []) (found (drop from names) name inside) in
+    sym (ap indexOf (same-is name _ stands) ∙ index-name (from + place) h)
 
 -- What a test finds of every name holds of each.
 pub every-name : (test : List ℕ → Bool) → T (passes (λ index. test (nameOf index)) elements) → (index : ℕ) → index < elements → test (nameOf index) ≡ true

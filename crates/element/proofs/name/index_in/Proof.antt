@@ -1,55 +1,23 @@
--- `element::name::index_in` meets its contract. The invariant: the names passed, and the place among those left, make the index.
-use Prim.Native.Nat.{_+_, _-_, _≤_, zero-le}
+-- `element::name::index_in` meets its contract.
 use borrow.Author.Needs.{needs}
-use lib.ListN.{drop, getD}
-use mathlib.Core.Bool.{false, true}
-use mathlib.Core.List.{[]}
-use mathlib.Core.Path.{_∙_, _≡_, sym}
-use native.Mathlib.Omega.{arith}
-use Rattle.element.proofs.Names.{index-end, index-no, index-yes}
+use mathlib.Core.Path.{_∙_}
+use Rattle.element.proofs.Names.{index-later}
 use Rattle.element.proofs.name.index_in.Statement.{statement}
-use Rattle.element.specs.Table.{indexIn, indexOf, names}
-use Rattle.text.specs.Part.{same}
+use Rattle.element.specs.Table.{indexOf}
 use Rattle.element.proofs.name.index_in.Tie as tie
 
-abbrev Inv-loop : tie.InvT-loop
-Inv-loop all starts name i₀ i = (i ≤ 29) × (indexOf name ≡ i + indexIn (drop i names) name)
+next-in-requires : tie.Need-next-in-requires
+next-in-requires c κs = search needs
 
-abbrev μ-loop : tie.MeasureT-loop
-μ-loop all starts name i₀ i = 29 - i
+returns : tie.Need-returns
+returns c = c .before .next-in .ensures ∙ index-later _ _ (rw (c .before .next-in .ensures) at (c .if2 .taken))
 
-loop-holds : tie.Need-loop-holds Inv-loop μ-loop
+next-in-requires-2 : tie.Need-next-in-requires-2
+next-in-requires-2 c κs = search needs
+
+returns-2 : tie.Need-returns-2
 unfolding indexOf
-loop-holds c = (zero-le, omega arith)
-
-is-name-requires : tie.Need-is-name-requires Inv-loop μ-loop
-is-name-requires c κs = search needs
-
-returns : tie.Need-returns Inv-loop μ-loop
-returns c = omega (arith, index-yes names (c .before .before .before .before .before .before .before .args .name .now) (c .before .before .before .loop .i) (c .before .before .loop-test .taken) (sym (c .before .is-name .ensures) ∙ c .if1 .taken))
-
-add-i : tie.Need-add-i Inv-loop μ-loop
-add-i c = search needs
-
-loop-less : tie.Need-loop-less Inv-loop μ-loop
-loop-less c = search needs
-
-loop-again : tie.Need-loop-again Inv-loop μ-loop
-loop-again c = (omega arith, omega (arith, index-no names (c .before .before .before .before .before .before .before .args .name .now) (c .before .before .before .loop .i) (c .before .before .loop-test .taken) (sym (c .before .is-name .ensures) ∙ c .if1 .left)))
-
-returns-2 : tie.Need-returns-2 Inv-loop μ-loop
-returns-2 c = let e : c .before .loop .i ≡ 29 = omega arith in omega (arith, index-end (c .before .before .before .before .before .args .name .now) (c .before .loop .i) e)
+returns-2 c = search needs
 
 pub index-in-spec : {M : Type 1} → statement M
-index-in-spec =
-    tie.close
-    (tie.spec
-    Inv-loop
-    μ-loop
-    loop-holds
-    is-name-requires
-    returns
-    add-i
-    loop-less
-    loop-again
-    returns-2)
+index-in-spec = tie.close (tie.spec next-in-requires returns next-in-requires-2 returns-2)

@@ -6,19 +6,19 @@ use Rattle.element.proofs.name.number.Statement.{statement}
 use Rattle.element.specs.Table.{elementNumber}
 use Rattle.element.proofs.name.number.Tie as tie
 
-index-requires : tie.Need-index-requires
-index-requires c κs = search needs
+index-from-requires : tie.Need-index-from-requires
+index-from-requires c κs = search needs
 
 add-result : tie.Need-add-result
 add-result c = search needs
 
 returns : tie.Need-returns
 unfolding elementNumber
-returns c = rw (sym (c .before .index .ensures), lt-ltb _ _ (c .if1 .taken))
+returns c = rw (sym (c .before .index-from .ensures), lt-ltb _ _ (c .if1 .taken))
 
 returns-2 : tie.Need-returns-2
 unfolding elementNumber
-returns-2 c = rw (sym (c .before .index .ensures), le-ltb _ _ (c .if1 .left))
+returns-2 c = rw (sym (c .before .index-from .ensures), le-ltb _ _ (c .if1 .left))
 
 pub number-spec : {M : Type 1} → statement M
-number-spec = tie.close (tie.spec index-requires add-result returns returns-2)
+number-spec = tie.close (tie.spec index-from-requires add-result returns returns-2)

@@ -9,10 +9,10 @@ use Rattle.report.proofs.columns.name_columns.Statement.{statement}
 use Rattle.report.proofs.columns.name_columns.Tie as tie
 
 abbrev Inv-loop : tie.InvT-loop
-Inv-loop line columns₀ from₀ k₀ columns from k = Naming line columns₀ columns from k
+Inv-loop line columns₀ from₀ k₀ hint₀ columns from k hint = Naming line columns₀ columns from k
 
 abbrev μ-loop : tie.MeasureT-loop
-μ-loop line columns₀ from₀ k₀ columns from k = suc (length line) - from
+μ-loop line columns₀ from₀ k₀ hint₀ columns from k hint = suc (length line) - from
 
 loop-holds : tie.Need-loop-holds Inv-loop μ-loop
 loop-holds c = name-start _ _
@@ -23,26 +23,26 @@ field-at-requires c κs = search needs
 add-end : tie.Need-add-end Inv-loop μ-loop
 add-end c = omega (arith, (c .before .field-at .ensures) .fits (c .before .before .loop .inv .at-most), (c .before .field-at .ensures) .within)
 
-sub-index : tie.Need-sub-index Inv-loop μ-loop
-sub-index c = search needs
+sub-index-from : tie.Need-sub-index-from Inv-loop μ-loop
+sub-index-from c = search needs
 
-part-index-start : tie.Need-part-index-start Inv-loop μ-loop
-part-index-start c = search needs
+part-index-from-start : tie.Need-part-index-from-start Inv-loop μ-loop
+part-index-from-start c = search needs
 
-part-index-end : tie.Need-part-index-end Inv-loop μ-loop
-part-index-end c = omega (arith, (c .before .field-at .ensures) .fits (c .before .before .loop .inv .at-most), (c .before .field-at .ensures) .within)
+part-index-from-end : tie.Need-part-index-from-end Inv-loop μ-loop
+part-index-from-end c = omega (arith, (c .before .field-at .ensures) .fits (c .before .before .loop .inv .at-most), (c .before .field-at .ensures) .within)
 
-index-requires : tie.Need-index-requires Inv-loop μ-loop
-index-requires c κs = search needs
+index-from-requires : tie.Need-index-from-requires Inv-loop μ-loop
+index-from-requires c κs = search needs
 
-add-t16 : tie.Need-add-t16 Inv-loop μ-loop
-add-t16 c = omega (arith, c .before .before .before .before .before .loop .inv .few)
+add-t17 : tie.Need-add-t17 Inv-loop μ-loop
+add-t17 c = omega (arith, c .before .before .before .before .before .loop .inv .few)
 
 same-length : tie.Need-same-length Inv-loop μ-loop
 same-length c = search needs
 
 returns : tie.Need-returns Inv-loop μ-loop
-returns c = record { case = name-unknown (c .before .before .before .before .before .loop .inv) (c .before .before .before .before .field-at .ensures) (c .before .before .before .before .before .before .before .before .pre) (c .before .index .ensures) (c .if1 .taken) }
+returns c = record { case = name-unknown (c .before .before .before .before .before .loop .inv) (c .before .before .before .before .field-at .ensures) (c .before .before .before .before .before .before .before .before .pre) (c .before .index-from .ensures) (c .if1 .taken) }
 
 cast-column : tie.Need-cast-column Inv-loop μ-loop
 cast-column c = omega (arith, c .if1 .left)
@@ -56,17 +56,17 @@ slice-aggregate-has c = sym (length-take-le (c .before .before .before .before .
 has-requires : tie.Need-has-requires Inv-loop μ-loop
 has-requires c κs = search needs
 
-add-t21 : tie.Need-add-t21 Inv-loop μ-loop
-add-t21 c = omega (arith, c .before .before .before .before .before .before .before .before .loop .inv .few)
+add-t22 : tie.Need-add-t22 Inv-loop μ-loop
+add-t22 c = omega (arith, c .before .before .before .before .before .before .before .before .loop .inv .few)
 
 same-length-2 : tie.Need-same-length-2 Inv-loop μ-loop
 same-length-2 c = search needs
 
 returns-2 : tie.Need-returns-2 Inv-loop μ-loop
-returns-2 c = record { case = name-twice (c .before .before .before .before .before .before .before .before .loop .inv) (c .before .before .before .before .before .before .before .field-at .ensures) (c .before .before .before .before .before .before .before .before .before .before .before .pre) (c .before .before .before .before .index .ensures) (c .before .before .before .if1 .left) (sym (c .if2 .taken) ∙ c .before .has .ensures) }
+returns-2 c = record { case = name-twice (c .before .before .before .before .before .before .before .before .loop .inv) (c .before .before .before .before .before .before .before .field-at .ensures) (c .before .before .before .before .before .before .before .before .before .before .before .pre) (c .before .before .before .before .index-from .ensures) (c .before .before .before .if1 .left) (sym (c .if2 .taken) ∙ c .before .has .ensures) }
 
 slice-write-columns : tie.Need-slice-write-columns Inv-loop μ-loop
-slice-write-columns c = omega (arith, name-room (c .before .before .before .before .before .before .before .before .loop .inv) (c .before .before .before .before .before .before .before .field-at .ensures) (c .before .before .before .before .before .before .before .before .before .before .before .pre) (c .before .before .before .before .index .ensures) (c .before .before .before .if1 .left) (sym (c .if2 .left) ∙ c .before .has .ensures), c .before .before .before .before .before .before .before .before .loop .inv .long, c .before .before .before .before .before .before .before .before .before .before .before .pre)
+slice-write-columns c = omega (arith, name-room (c .before .before .before .before .before .before .before .before .loop .inv) (c .before .before .before .before .before .before .before .field-at .ensures) (c .before .before .before .before .before .before .before .before .before .before .before .pre) (c .before .before .before .before .index-from .ensures) (c .before .before .before .if1 .left) (sym (c .if2 .left) ∙ c .before .has .ensures), c .before .before .before .before .before .before .before .before .loop .inv .long, c .before .before .before .before .before .before .before .before .before .before .before .pre)
 
 add-k : tie.Need-add-k Inv-loop μ-loop
 add-k c = omega (arith, c .before .before .before .before .before .before .before .before .loop .inv .few)
@@ -75,16 +75,19 @@ same-length-3 : tie.Need-same-length-3 Inv-loop μ-loop
 same-length-3 c = search needs
 
 returns-3 : tie.Need-returns-3 Inv-loop μ-loop
-returns-3 c = record { case = name-found (c .before .before .before .before .before .before .before .before .before .before .loop .inv) (c .before .before .before .before .before .before .before .before .before .field-at .ensures) (c .before .before .before .before .before .before .before .before .before .before .before .before .before .pre) (c .before .before .before .before .before .before .index .ensures) (c .before .before .before .before .before .if1 .left) (sym (c .before .before .if2 .left) ∙ c .before .before .before .has .ensures) (c .if3 .taken) }
+returns-3 c = record { case = name-found (c .before .before .before .before .before .before .before .before .before .before .loop .inv) (c .before .before .before .before .before .before .before .before .before .field-at .ensures) (c .before .before .before .before .before .before .before .before .before .before .before .before .before .pre) (c .before .before .before .before .before .before .index-from .ensures) (c .before .before .before .before .before .if1 .left) (sym (c .before .before .if2 .left) ∙ c .before .before .before .has .ensures) (c .if3 .taken) }
 
 add-from : tie.Need-add-from Inv-loop μ-loop
 add-from c = omega (arith, (c .before .before .before .before .before .before .before .before .before .before .field-at .ensures) .fits (c .before .before .before .before .before .before .before .before .before .before .before .loop .inv .at-most), c .before .if3 .left)
+
+add-hint : tie.Need-add-hint Inv-loop μ-loop
+add-hint c = search needs
 
 loop-less : tie.Need-loop-less Inv-loop μ-loop
 loop-less c = omega (arith, (c .before .before .before .before .before .before .before .before .before .before .field-at .ensures) .fits (c .before .before .before .before .before .before .before .before .before .before .before .loop .inv .at-most), (c .before .before .before .before .before .before .before .before .before .before .field-at .ensures) .till-is, c .before .if3 .left)
 
 loop-again : tie.Need-loop-again Inv-loop μ-loop
-loop-again c = name-on (c .before .before .before .before .before .before .before .before .before .before .before .loop .inv) (c .before .before .before .before .before .before .before .before .before .before .field-at .ensures) (c .before .before .before .before .before .before .before .before .before .before .before .before .before .before .pre) (c .before .before .before .before .before .before .before .index .ensures) (c .before .before .before .before .before .before .if1 .left) (sym (c .before .before .before .if2 .left) ∙ c .before .before .before .before .has .ensures) (c .before .if3 .left)
+loop-again c = name-on (c .before .before .before .before .before .before .before .before .before .before .before .loop .inv) (c .before .before .before .before .before .before .before .before .before .before .field-at .ensures) (c .before .before .before .before .before .before .before .before .before .before .before .before .before .before .pre) (c .before .before .before .before .before .before .before .index-from .ensures) (c .before .before .before .before .before .before .if1 .left) (sym (c .before .before .before .if2 .left) ∙ c .before .before .before .before .has .ensures) (c .before .if3 .left)
 
 pub name-columns-spec : {M : Type 1} → statement M
 name-columns-spec =
@@ -95,18 +98,18 @@ name-columns-spec =
     loop-holds
     field-at-requires
     add-end
-    sub-index
-    part-index-start
-    part-index-end
-    index-requires
-    add-t16
+    sub-index-from
+    part-index-from-start
+    part-index-from-end
+    index-from-requires
+    add-t17
     same-length
     returns
     cast-column
     slice-reshare-prefix-has
     slice-aggregate-has
     has-requires
-    add-t21
+    add-t22
     same-length-2
     returns-2
     slice-write-columns
@@ -114,5 +117,6 @@ name-columns-spec =
     same-length-3
     returns-3
     add-from
+    add-hint
     loop-less
     loop-again)
