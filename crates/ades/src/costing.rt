@@ -32,7 +32,7 @@ pub fn fill_sizes(sets: &[u64], lengths: &[u16], sizes: &mut [u32])
 }
 
 // Prints the account of a packed report block by block, and what other blocks of the same rows would have cost.
-pub fn print_costs(report: &[u8], packed: &[u8], sets: &[u64], sizes: &[u32])
+pub(crate) fn print_costs(report: &[u8], packed: &[u8], sets: &[u64], sizes: &[u32])
     requires { ⌜ length (now sizes) ≡ length (now sets) ⌝ }
 {
     let as_cut = cost_as_cut(report, sets, sizes);
