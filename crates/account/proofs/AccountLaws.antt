@@ -12,7 +12,7 @@ use lib.Seq.{drop-cons}
 use borrow.Author.Tests.{eq-eqb, ne-eqb, le-leb, lt-leb}
 use mir.Syntax.{w32, w64}
 use mir.Val.{Fits}
-use Rattle.cuts.specs.Block.{Row, row, rowLimit, rowsOf, union, valueBytes, rowCount, nameLengths, nameBytes, bytesOf}
+use Rattle.cuts.specs.Block.{Row, row, mostRows, rowsOf, union, valueBytes, rowCount, nameLengths, nameBytes, bytesOf}
 use Rattle.cuts.proofs.SumLaws.{names-low}
 use Rattle.account.specs.Account.{valueLimit, closed, accounted, Gathered, bytesIf, bytesIn, leadingLike}
 use Rattle.account.specs.declared.Block.{Block}
@@ -30,10 +30,10 @@ columns-fit version set names n v e h = record { fits = omega (arith, names-low 
 pub values-fit : (version set names n values : ℕ) → version ≤ 15 → names ≡ nameBytes nameLengths set → n ≤ 64 → values ≤ valueLimit → Fits w64 (version + names + n + values)
 values-fit version set names n values v e h g = record { fits = omega (arith, names-low set) }
 
-pub cells-fit : (rows n : ℕ) → rows ≤ rowLimit → n ≤ 64 → Fits w64 (rows * n)
+pub cells-fit : (rows n : ℕ) → rows ≤ mostRows → n ≤ 64 → Fits w64 (rows * n)
 cells-fit rows n h g = record { fits = omega (arith, mul-le-mul h g) }
 
-pub block-fits : (version set names n values rows : ℕ) → version ≤ 15 → names ≡ nameBytes nameLengths set → n ≤ 64 → values ≤ valueLimit → rows ≤ rowLimit → Fits w64 (version + names + n + values + rows * n)
+pub block-fits : (version set names n values rows : ℕ) → version ≤ 15 → names ≡ nameBytes nameLengths set → n ≤ 64 → values ≤ valueLimit → rows ≤ mostRows → Fits w64 (version + names + n + values + rows * n)
 block-fits version set names n values rows v e h g k = record { fits = omega (arith, names-low set, mul-le-mul k h) }
 
 -- The parts make the block.
@@ -59,7 +59,7 @@ pub record Gathers (sets sizes : List ℕ) (set values i : ℕ) : Type 0 where
 pub gathers-none : (sets sizes : List ℕ) → Gathers sets sizes 0 0 0
 gathers-none sets sizes = record { within = omega arith; low = omega arith; set-left = refl; values-left = omega arith }
 
-module _ (sets sizes : List ℕ) (set values i : ℕ) (p : (length sets ≤ rowLimit) × (length sizes ≡ length sets)) (g : Gathers sets sizes set values i) where
+module _ (sets sizes : List ℕ) (set values i : ℕ) (p : (length sets ≤ mostRows) × (length sizes ≡ length sets)) (g : Gathers sets sizes set values i) where
   -- One row more.
   module _ (size : ℕ) (h : i < length sets) (e : (size ≡ getD sizes i 0) × (size < 2 ^ 32)) where
     rows-step : rowsFrom sets sizes i ≡ row (getD sets i 0) (getD sizes i 0) 1 ∷ rowsFrom sets sizes (i + 1)
@@ -119,19 +119,19 @@ rows-counted (set ∷ sets) (size ∷ sizes) e = omega (arith, rows-counted sets
 
 -- Each test decides, where the one before it passed.
 module _ (sets sizes : List ℕ) (r : Block) where
-  pub too-many : rowLimit < length sets → r ≡ closed 0 0 0 → r ≡ accounted sets sizes
+  pub too-many : mostRows < length sets → r ≡ closed 0 0 0 → r ≡ accounted sets sizes
   unfolding accounted union valueBytes rowCount
-  too-many h e = rw (lt-leb (length sets) rowLimit h) e
+  too-many h e = rw (lt-leb (length sets) mostRows h) e
 
-  module _ (few : length sets ≤ rowLimit) where
+  module _ (few : length sets ≤ mostRows) where
     pub unlike-lengths : (length sizes ≡ length sets → ⊥) → r ≡ closed 0 0 0 → r ≡ accounted sets sizes
     unfolding accounted union valueBytes rowCount
-    unlike-lengths n e = rw (le-leb (length sets) rowLimit few, ne-eqb (length sizes) (length sets) n) e
+    unlike-lengths n e = rw (le-leb (length sets) mostRows few, ne-eqb (length sizes) (length sets) n) e
 
     pub all-accounted : (g : Gathering) → length sizes ≡ length sets → Gathered (rowsOf sets sizes) g × (g .values ≤ valueLimit) → r ≡ closed (g .set) (g .values) (length sets) → r ≡ accounted sets sizes
     unfolding accounted
     all-accounted g same h e =
-        rw (le-leb (length sets) rowLimit few, eq-eqb (length sizes) (length sets) same, rows-counted sets sizes same, ← h .0 .set-is, ← h .0 .values-are) e
+        rw (le-leb (length sets) mostRows few, eq-eqb (length sizes) (length sets) same, rows-counted sets sizes same, ← h .0 .set-is, ← h .0 .values-are) e
 
 pub ruleset account-needs = (too-many, unlike-lengths, all-accounted)
 

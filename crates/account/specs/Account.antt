@@ -6,13 +6,13 @@ use mathlib.Core.List.{List, [], _∷_}
 use lib.Count.{ones}
 use lib.Dec.{eqb, leb}
 use lib.ListN.{length, getD}
-use Rattle.cuts.specs.Block.{Row, rowLimit, rowsOf, union, valueBytes, rowCount, nameLengths, nameBytes, bytesOf}
+use Rattle.cuts.specs.Block.{Row, mostRows, rowsOf, union, valueBytes, rowCount, nameLengths, nameBytes, bytesOf}
 use Rattle.account.specs.declared.Block.{Block}
 use Rattle.account.specs.declared.Gathering.{Gathering}
 
 -- The most bytes of values that rows within the limit can have together.
 abbrev pub valueLimit : ℕ
-valueLimit = rowLimit * 2 ^ 32
+valueLimit = mostRows * 2 ^ 32
 
 -- A block with these columns, these bytes of values and so many rows: "bytes are 15, plus name lengths, plus one a column, plus
 -- values, plus rows times columns".
@@ -33,7 +33,7 @@ accountOf rows = closed (union 0 rows) (valueBytes rows) (rowCount rows)
 -- The account of the rows with these sets and sizes, where they are within the limit and as many sizes as sets; else that of no rows.
 unfoldable pub accounted : List ℕ → List ℕ → Block
 accounted sets sizes =
-    cond (leb (length sets) rowLimit && eqb (length sizes) (length sets)) (accountOf (rowsOf sets sizes)) (accountOf [])
+    cond (leb (length sets) mostRows && eqb (length sizes) (length sets)) (accountOf (rowsOf sets sizes)) (accountOf [])
 
 -- What the rows hold together.
 pub record Gathered (rows : List Row) (r : Gathering) : Type 0 where

@@ -2,11 +2,11 @@
 ghost use mathlib.Core.Path.{_≡_};
 ghost use Prim.Native.Nat.{_^_, _≤_, _<_};
 ghost use lib.ListN.{length};
-ghost use Rattle.cuts.specs.Block.{rowLimit, rowsOf};
+ghost use Rattle.cuts.specs.Block.{mostRows, rowsOf};
 ghost use Rattle.account.specs.Account.{valueLimit, closed, accounted, Gathered, bytesIf, bytesIn, alike};
 
 // The most rows of an account.
-const ROW_LIMIT: usize = 1024;
+const MOST_ROWS: usize = 1024;
 
 // A block: its rows, its columns, the bytes of their names, the bytes of its values, and all its bytes.
 pub struct Block {
@@ -28,7 +28,7 @@ struct Gathering {
 pub fn account(sets: &[u64], sizes: &[u32]) -> Block
     ensures { λ r. ⌜ r ≡ accounted (now (sets .entry)) (now (sizes .entry)) ⌝ }
 {
-    if ROW_LIMIT < sets.len() {
+    if MOST_ROWS < sets.len() {
         return close(0, 0, 0);
     }
     if sizes.len() != sets.len() {
@@ -40,7 +40,7 @@ pub fn account(sets: &[u64], sizes: &[u32]) -> Block
 
 // The account of a block from its set of elements, the bytes of its values and the number of its rows.
 fn close(set: u64, values: u64, rows: u64) -> Block
-    requires { ⌜ (values ≤ valueLimit) × (rows ≤ rowLimit) ⌝ }
+    requires { ⌜ (values ≤ valueLimit) × (rows ≤ mostRows) ⌝ }
     ensures { λ r. ⌜ r ≡ closed set values rows ⌝ }
 {
     let names = cuts::block::names_of(set);
@@ -56,7 +56,7 @@ fn close(set: u64, values: u64, rows: u64) -> Block
 
 // What rows with these sets and sizes hold together.
 fn gather(sets: &[u64], sizes: &[u32]) -> Gathering
-    requires { ⌜ (length (now sets) ≤ rowLimit) × (length (now sizes) ≡ length (now sets)) ⌝ }
+    requires { ⌜ (length (now sets) ≤ mostRows) × (length (now sizes) ≡ length (now sets)) ⌝ }
     ensures { λ r. ⌜ Gathered (rowsOf (now (sets .entry)) (now (sizes .entry))) r × (r .values ≤ valueLimit) ⌝ }
 {
     let mut set: u64 = 0;

@@ -8,7 +8,7 @@ use lib.Count.{ones, ones-le}
 use native.Mathlib.Nat.{mul-le-mul}
 use mir.Syntax.{w64}
 use mir.Val.{Fits}
-use Rattle.cuts.specs.Block.{rowLimit, textLimit, nameLengths, lengthIf, nameBytes, bytesOf}
+use Rattle.cuts.specs.Block.{mostRows, mostBytes, nameLengths, lengthIf, nameBytes, bytesOf}
 use Rattle.cuts.specs.Look.{blockLimit, headOf}
 use Rattle.cuts.specs.declared.block.Head.{Head}
 use Rattle.cuts.proofs.SumLaws.{names-step, names-end, names-low}
@@ -65,7 +65,7 @@ head-kept known columns h e = h ∙ ap headOf (sym e)
 pub ruleset head-needs = (lengths-listed, head-fits, lines-fit, head-made, head-kept)
 
 -- The bytes of a block with a head of columns that a number of the machine holds.
-module _ (head : Head) (values rows : ℕ) (is : head ≡ headOf (head .columns)) (c : head .columns < 2 ^ 64) (v : values ≤ textLimit) (r : rows ≤ rowLimit) where
+module _ (head : Head) (values rows : ℕ) (is : head ≡ headOf (head .columns)) (c : head .columns < 2 ^ 64) (v : values ≤ mostBytes) (r : rows ≤ mostRows) where
   count-low : head .count ≤ 64
   count-low = omega (arith, ap (λ (h : Head). h .count) is, ones-le 64 (head .columns) c)
 

@@ -12,7 +12,7 @@ use mir.Val.{Fits}
 use native.Mathlib.Nat.{le-trans}
 use Rattle.cuts.specs.Runs.{runsOf}
 use Rattle.cuts.specs.Cheapest.{lastLeast, bestCosts, firstMore, firstBlocks}
-use Rattle.cuts.specs.Block.{rowLimit, Row, union, blockBytes, allMore}
+use Rattle.cuts.specs.Block.{mostRows, Row, union, blockBytes, allMore}
 use Rattle.cuts.specs.Look.{blockLimit, headOf, endCost, Small, TailIs, BestEnd, FoundIs, Fit, Filled, Best}
 use Rattle.cuts.specs.declared.block.Head.{Head}
 use Rattle.cuts.specs.declared.tail.Tail.{Tail}
@@ -77,7 +77,7 @@ module _ (more : Row → List Row → ℕ) (sets sizes counts costs firsts : Lis
     best-is : best ≡ lastLeast (endCost (x ∷ xs) (bestCosts blockBytes more xs)) (more x xs)
     best-is = least-is (endCost (x ∷ xs) (bestCosts blockBytes more xs)) (more x xs) best (found .least)
 
-    best-low : best < rowLimit
+    best-low : best < mostRows
     best-low = omega (arith, found .least .to, after-length, fit .few)
 
     -- With the run j the costs and the first blocks are filled in from there on.
@@ -135,7 +135,7 @@ module _ (sets sizes counts costs firsts : List ℕ) (fit : Fit sets sizes count
     within : length rest ≤ length rest
     within = omega arith
 
-    best-low-all : found .best < rowLimit
+    best-low-all : found .best < mostRows
     unfolding rest
     best-low-all = best-low allMore sets sizes counts costs firsts fit j h f within (found .best) (found .cost) best-end
 

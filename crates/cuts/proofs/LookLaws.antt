@@ -12,7 +12,7 @@ use native.Mathlib.Nat.{zero-add}
 use mir.Syntax.{w64}
 use mir.Val.{Fits}
 use Rattle.cuts.specs.Runs.{runsOf}
-use Rattle.cuts.specs.Block.{rowLimit, textLimit, Row, row, union, valueBytes, rowCount, bytesOf}
+use Rattle.cuts.specs.Block.{mostRows, mostBytes, Row, row, union, valueBytes, rowCount, bytesOf}
 use Rattle.cuts.specs.Look.{blockLimit, headOf, endCost, LeastIn, Looked, IsFull, LookedNear, LookedFar, Small}
 use Rattle.cuts.specs.declared.block.Head.{Head}
 use Rattle.cuts.specs.declared.ends.Look.{Look}
@@ -131,10 +131,10 @@ module _ (sets sizes counts after : List ℕ) (small : Small sets sizes counts a
   pub runs-long : length runs ≡ length sets
   runs-long = runs-length sets sizes counts (small .same) (small .also)
 
-  pub start-small : (w : ℕ) → w ≡ getD sizes 0 0 → w ≤ textLimit
+  pub start-small : (w : ℕ) → w ≡ getD sizes 0 0 → w ≤ mostBytes
   start-small w e = omega (arith, ap (λ (x : Row). x .size) (run-at 0), run-le runs 0 .0, small .sum)
 
-  pub start-few : (n : ℕ) → n ≡ getD counts 0 0 → n ≤ rowLimit
+  pub start-few : (n : ℕ) → n ≡ getD counts 0 0 → n ≤ mostRows
   start-few n e = omega (arith, ap (λ (x : Row). x .count) (run-at 0), run-le runs 0 .1, small .all)
 
   pub cost-fits : (c i : ℕ) → c < blockLimit → Fits w64 (c + getD after i 0)
@@ -148,10 +148,10 @@ module _ (sets sizes counts after : List ℕ) (small : Small sets sizes counts a
 
   module _ (l : Look) (s : Looked runs after l) where
     -- The sums stay within the limits.
-    pub values-small : l .values ≤ textLimit
+    pub values-small : l .values ≤ mostBytes
     values-small = omega (arith, s .values, values-take-le runs (suc (l .end)), small .sum)
 
-    pub rows-few : l .rows ≤ rowLimit
+    pub rows-few : l .rows ≤ mostRows
     rows-few = omega (arith, s .rows, count-take-le runs (suc (l .end)), small .all)
 
     pub head-known : l .head ≡ headOf (l .head .columns)
@@ -171,14 +171,14 @@ module _ (sets sizes counts after : List ℕ) (small : Small sets sizes counts a
       run-on : suc (l .end) < length runs
       run-on = omega (arith, runs-long)
 
-      pub step-small : (w : ℕ) → w ≡ getD sizes (l .end + 1) 0 → l .values + w ≤ textLimit
+      pub step-small : (w : ℕ) → w ≡ getD sizes (l .end + 1) 0 → l .values + w ≤ mostBytes
       step-small w e =
           omega (arith, s .values, values-take runs (suc (l .end)) run-on, values-take-le runs (suc (suc (l .end))), ap (λ (x : Row). x .size) (run-at (suc (l .end))), ap (λ (x : ℕ). getD sizes x 0) (add-one (l .end)), small .sum)
 
       pub values-fit : (w : ℕ) → w ≡ getD sizes (l .end + 1) 0 → Fits w64 (l .values + w)
       values-fit w e = record { fits = omega (arith, step-small w e) }
 
-      pub step-few : (n : ℕ) → n ≡ getD counts (l .end + 1) 0 → l .rows + n ≤ rowLimit
+      pub step-few : (n : ℕ) → n ≡ getD counts (l .end + 1) 0 → l .rows + n ≤ mostRows
       step-few n e =
           omega (arith, s .rows, count-take runs (suc (l .end)) run-on, count-take-le runs (suc (suc (l .end))), ap (λ (x : Row). x .count) (run-at (suc (l .end))), ap (λ (x : ℕ). getD counts x 0) (add-one (l .end)), small .all)
 

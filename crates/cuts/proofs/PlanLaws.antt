@@ -8,7 +8,7 @@ use lib.Seq.{length-take-le, take-at}
 use Rattle.cuts.specs.Runs.{runsOf, inRows, ReadyRuns, PlannedRuns}
 use Rattle.cuts.specs.Cheapest.{follow, bestCosts, bestCost, firstMore, firstBlocks, chosen}
 use Rattle.cuts.specs.Walk.{blockRows, Walkable}
-use Rattle.cuts.specs.Block.{rowLimit, Row, total, blockBytes}
+use Rattle.cuts.specs.Block.{mostRows, Row, total, blockBytes}
 use Rattle.cuts.specs.Look.{Fit, Best}
 use Rattle.cuts.proofs.SumLaws.{runs-length, runs-total}
 use Rattle.cuts.proofs.CheapestLaws.{costs-at, follow-at}

@@ -13,7 +13,7 @@ use mir.Syntax.{w64}
 use mir.Val.{Fits}
 use borrow.Author.Tests.{eq-eqb, ne-eqb}
 use Rattle.cuts.specs.Runs.{runsOf, joined, onto, press, change, changes, runsIn, Room, Pressed, Joins}
-use Rattle.cuts.specs.Block.{rowLimit, textLimit, Row, row, rowsOf, valueBytes, rowCount}
+use Rattle.cuts.specs.Block.{mostRows, mostBytes, Row, row, rowsOf, valueBytes, rowCount}
 use Rattle.cuts.proofs.SumLaws.{drop-set, one-less-lt, runs-length, values-drop-le, count-drop-le}
 
 -- The rows from i on are the row i and those after it.
@@ -114,7 +114,7 @@ module _ (sets sizes runSets runSizes runCounts : List ℕ) (i j : ℕ) (p : Pre
       ap press (rows-ahead sets sizes i (p .room .same) h)
       ∙ ap (onto x) (ap (λ (n : ℕ). press (drop n (rowsOf sets sizes))) (sym (add-one i)) ∙ sym (p .are))
 
-  next-low : (valueBytes (press (drop i (rowsOf sets sizes))) ≤ textLimit) × (rowCount (press (drop i (rowsOf sets sizes))) ≤ rowLimit)
+  next-low : (valueBytes (press (drop i (rowsOf sets sizes))) ≤ mostBytes) × (rowCount (press (drop i (rowsOf sets sizes))) ≤ mostRows)
   next-low = (
     omega (arith, press-both (drop i (rowsOf sets sizes)) .0, values-drop-le (rowsOf sets sizes) i, p .room .sum),
     omega (arith, press-both (drop i (rowsOf sets sizes)) .1, count-drop-le (rowsOf sets sizes) i, count-rows sets sizes, p .room .few),

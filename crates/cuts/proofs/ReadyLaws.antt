@@ -12,8 +12,8 @@ use mir.Syntax.{w64}
 use mir.Val.{Fits}
 use lib.Seq.{take-all}
 use Rattle.cuts.specs.Runs.{fewRuns, press, runsIn, Ready}
-use Rattle.cuts.specs.Plan.{ready, Planned, Answered, Promised}
-use Rattle.cuts.specs.Block.{rowLimit, textLimit, rowsOf, total, valueBytes, allMore}
+use Rattle.cuts.specs.Plan.{ready, Planned, Answered, ShortestPromised}
+use Rattle.cuts.specs.Block.{mostRows, mostBytes, rowsOf, total, valueBytes, allMore}
 use Rattle.cuts.specs.declared.Plan.{Plan}
 use Rattle.cuts.proofs.SumLaws.{total-take}
 use Rattle.cuts.proofs.PressLaws.{rows-few, press-short, press-count}
@@ -40,7 +40,7 @@ summed-more sizes k sum size h e s = record {
 }
 
 -- No sum passes what a number holds.
-pub summed-fits : (sizes : List ℕ) (k sum size : ℕ) → length sizes ≤ rowLimit → k < length sizes → (size ≡ getD sizes k 0) × (size < 2 ^ 32) → Summed sizes k sum → Fits w64 (sum + size)
+pub summed-fits : (sizes : List ℕ) (k sum size : ℕ) → length sizes ≤ mostRows → k < length sizes → (size ≡ getD sizes k 0) × (size < 2 ^ 32) → Summed sizes k sum → Fits w64 (sum + size)
 summed-fits sizes k sum size l h e s = record { fits = omega (arith, s .low, e .1) }
 
 -- All sizes are added up.
@@ -58,22 +58,22 @@ module _ (sets sizes cuts : List ℕ) where
   unlike-lengths n = rw (ne-eqb (length sizes) (length sets) n)
 
   module _ (same : length sizes ≡ length sets) where
-    pub too-many : rowLimit < length sets → false ≡ ready sets sizes cuts
+    pub too-many : mostRows < length sets → false ≡ ready sets sizes cuts
     unfolding ready
-    too-many h = rw (eq-eqb (length sizes) (length sets) same, lt-leb (length sets) rowLimit h)
+    too-many h = rw (eq-eqb (length sizes) (length sets) same, lt-leb (length sets) mostRows h)
 
-    module _ (few : length sets ≤ rowLimit) where
-      pub sizes-few : length sizes ≤ rowLimit
+    module _ (few : length sets ≤ mostRows) where
+      pub sizes-few : length sizes ≤ mostRows
       sizes-few = omega arith
 
       pub no-room : length cuts < length sets → false ≡ ready sets sizes cuts
       unfolding ready
-      no-room h = rw (eq-eqb (length sizes) (length sets) same, le-leb (length sets) rowLimit few, lt-leb (length sets) (length cuts) h)
+      no-room h = rw (eq-eqb (length sizes) (length sets) same, le-leb (length sets) mostRows few, lt-leb (length sets) (length cuts) h)
 
-      pub size-decides : (sum : ℕ) → length sets ≤ length cuts → sum ≡ total sizes → leb sum textLimit ≡ ready sets sizes cuts
+      pub size-decides : (sum : ℕ) → length sets ≤ length cuts → sum ≡ total sizes → leb sum mostBytes ≡ ready sets sizes cuts
       unfolding ready
       size-decides sum h e =
-          rw (eq-eqb (length sizes) (length sets) same, le-leb (length sets) rowLimit few, le-leb (length sets) (length cuts) h, e)
+          rw (eq-eqb (length sizes) (length sets) same, le-leb (length sets) mostRows few, le-leb (length sets) (length cuts) h, e)
 
 pub ruleset test-needs = (unlike-lengths, too-many, sizes-few, no-room, size-decides)
 
@@ -102,18 +102,18 @@ module _ (sets sizes cuts : List ℕ) (b : Bool) (is : b ≡ ready sets sizes cu
   is-ready e =
       let all = sym is ∙ e in
       let limits = and-right (eqb (length sizes) (length sets)) _ all in
-      let rest = and-right (leb (length sets) rowLimit) _ limits in
+      let rest = and-right (leb (length sets) mostRows) _ limits in
       record {
         same = eqb-true (length sizes) (length sets) (and-left (eqb (length sizes) (length sets)) _ all);
-        few = leb-true (length sets) rowLimit (and-left (leb (length sets) rowLimit) _ limits);
-        sum = omega (arith, leb-true (total sizes) textLimit (and-right (leb (length sets) (length cuts)) _ rest), sizes-values sets sizes);
+        few = leb-true (length sets) mostRows (and-left (leb (length sets) mostRows) _ limits);
+        sum = omega (arith, leb-true (total sizes) mostBytes (and-right (leb (length sets) (length cuts)) _ rest), sizes-values sets sizes);
         room = leb-true (length sets) (length cuts) (and-left (leb (length sets) (length cuts)) _ rest);
       }
 
-  pub is-planned : (plan : Plan) (after : List ℕ) → b ≡ true → Planned allMore (rowsOf sets sizes) plan cuts after → Promised sets sizes plan cuts after
+  pub is-planned : (plan : Plan) (after : List ℕ) → b ≡ true → Planned allMore (rowsOf sets sizes) plan cuts after → ShortestPromised sets sizes plan cuts after
   is-planned plan after e p = subst (λ (t : Bool). Answered t (rowsOf sets sizes) plan cuts after) (sym e ∙ is) p
 
-  pub is-unplanned : b ≡ false → Promised sets sizes (record { blocks = 0; bytes = 0 }) cuts cuts
+  pub is-unplanned : b ≡ false → ShortestPromised sets sizes (record { blocks = 0; bytes = 0 }) cuts cuts
   is-unplanned e =
       subst (λ (t : Bool). Answered t (rowsOf sets sizes) (record { blocks = 0; bytes = 0 }) cuts cuts) (sym e ∙ is)
       (record { blocks = refl; bytes = refl; kept = refl })
@@ -126,7 +126,7 @@ pub ruleset promise-needs = (is-ready, is-planned, is-unplanned)
 pub runs-few : (sets sizes cuts : List ℕ) (n : ℕ) → Ready sets sizes cuts → n ≡ runsIn sets → n ≤ fewRuns → length (press (rowsOf sets sizes)) ≤ fewRuns
 runs-few sets sizes cuts n ready e h = omega (arith, press-count sets sizes (ready .same))
 
-pub runs-within : (sets sizes cuts : List ℕ) → Ready sets sizes cuts → length (press (rowsOf sets sizes)) ≤ rowLimit
+pub runs-within : (sets sizes cuts : List ℕ) → Ready sets sizes cuts → length (press (rowsOf sets sizes)) ≤ mostRows
 runs-within sets sizes cuts ready = omega (arith, press-short (rowsOf sets sizes), rows-few sets sizes, ready .few)
 
 pub ruleset list-needs = (runs-few, runs-within)

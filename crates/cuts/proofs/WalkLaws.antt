@@ -10,7 +10,7 @@ use mir.Val.{Fits}
 use mir.Syntax.{w16}
 use native.Mathlib.Nat.{zero-min, suc-min-suc}
 use Rattle.cuts.specs.Walk.{blockRows, Walkable, Written}
-use Rattle.cuts.specs.Block.{rowLimit, total}
+use Rattle.cuts.specs.Block.{mostRows, total}
 use Rattle.cuts.specs.declared.cut_list.Walk.{Walk}
 use Rattle.cuts.proofs.SumLaws.{total-take, total-take-le, total-drop-le, end-is}
 
@@ -25,7 +25,7 @@ pub sum-step : (counts : List ℕ) (k n f s : ℕ) → k < n → n ≡ min f (le
 sum-step counts k n f s h m e = omega (arith, total-take counts k (omega arith), ap (λ (n : ℕ). total (take n counts)) (add-one k))
 
 -- No sum passes what a number holds.
-pub sum-low : (counts : List ℕ) (k n f s : ℕ) → k < n → n ≡ min f (length counts) → s ≡ total (take k counts) → total counts ≤ rowLimit → Fits w16 (s + getD counts k 0)
+pub sum-low : (counts : List ℕ) (k n f s : ℕ) → k < n → n ≡ min f (length counts) → s ≡ total (take k counts) → total counts ≤ mostRows → Fits w16 (s + getD counts k 0)
 sum-low counts k n f s h m e g = record { fits = omega (arith, total-take counts k (omega arith), total-take-le counts (suc k)) }
 
 -- No more numbers are taken than there are.
@@ -111,7 +111,7 @@ pub walk-passes : (firsts counts out₀ out : List ℕ) (i : ℕ) (v : Walk) →
 walk-passes firsts counts out₀ out i v l h z r = walk-inside firsts counts out₀ out i (v .written) (v .skip) r h l z
 
 -- The rows of the runs from i on are few.
-pub walk-sum : (firsts counts out : List ℕ) (i : ℕ) → Walkable firsts counts out → total (take (length counts - i) (drop i counts)) ≤ rowLimit
+pub walk-sum : (firsts counts out : List ℕ) (i : ℕ) → Walkable firsts counts out → total (take (length counts - i) (drop i counts)) ≤ mostRows
 walk-sum firsts counts out i l = omega (arith, ap total (end-is counts i), total-drop-le counts i, l .few)
 
 -- The room stays.

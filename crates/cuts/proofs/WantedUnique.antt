@@ -9,7 +9,7 @@ use lib.ListN.{length, take, drop, take-append-drop}
 use lib.Seq.{length-take-le}
 use Rattle.cuts.specs.Cuts.{Yields, cost, Wanted}
 use Rattle.cuts.specs.Block.{Row, blockBytes, rowsOf, allMore}
-use Rattle.cuts.specs.Plan.{Planned, Unplanned, Answered, Promised, ready}
+use Rattle.cuts.specs.Plan.{Planned, Unplanned, Answered, ShortestPromised, ready}
 use Rattle.cuts.specs.declared.Plan.{Plan}
 
 -- Two cut lists that yield to each other are the same.
@@ -50,7 +50,7 @@ unplanned-unique p q before after other a b = (
 
 -- The promise of `shortest` has one answer.
 pub promised-unique : (sets sizes : List ℕ) (p q : Plan) (before after other : List ℕ)
-    → Promised sets sizes p before after → Promised sets sizes q before other → (p ≡ q) × (after ≡ other)
+    → ShortestPromised sets sizes p before after → ShortestPromised sets sizes q before other → (p ≡ q) × (after ≡ other)
 promised-unique sets sizes p q before after other = go (ready sets sizes before)
   where
     go : (b : Bool) → Answered b (rowsOf sets sizes) p before after → Answered b (rowsOf sets sizes) q before other → (p ≡ q) × (after ≡ other)

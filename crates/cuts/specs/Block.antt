@@ -8,12 +8,12 @@ use lib.ListN.{length}
 use Rattle.element.specs.Table.{names}
 
 -- The most rows that the search can cut. This is a bound of its own, not the reader's limit on data lines.
-abbrev pub rowLimit : ℕ
-rowLimit = 1024
+abbrev pub mostRows : ℕ
+mostRows = 1024
 
 -- The most bytes that the values of these rows may have together.
-abbrev pub textLimit : ℕ
-textLimit = 65536
+abbrev pub mostBytes : ℕ
+mostBytes = 65536
 
 -- A row: the set of its present elements, the bytes of its values, and how many rows of the report it stands for: 1, or more for a
 -- run of rows with one set.

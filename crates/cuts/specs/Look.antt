@@ -7,7 +7,7 @@ use Prim.Native.Nat.{ℕ, suc, _+_, _-_, _*_, _^_, _≤_, _<_}
 use lib.Count.{ones}
 use lib.Dec.{leb, ltb}
 use lib.ListN.{length, take, drop, getD}
-use Rattle.cuts.specs.Block.{rowLimit, textLimit, Row, union, valueBytes, rowCount, nameLengths, nameBytes, blockBytes}
+use Rattle.cuts.specs.Block.{mostRows, mostBytes, Row, union, valueBytes, rowCount, nameLengths, nameBytes, blockBytes}
 use Rattle.cuts.specs.Cheapest.{bestCosts, firstBlocks}
 use Rattle.cuts.specs.Runs.{runsOf}
 use Rattle.cuts.specs.declared.block.Head.{Head}
@@ -68,10 +68,10 @@ pub record Small (sets sizes counts after : List ℕ) : Type 0 where
   pub same : length sizes ≡ length sets
   pub also : length counts ≡ length sets
   pub some : 0 < length sets
-  pub few : length sets ≤ rowLimit
+  pub few : length sets ≤ mostRows
   pub rest : length after ≡ length sets
-  pub sum : valueBytes (runsOf sets sizes counts) ≤ textLimit
-  pub all : rowCount (runsOf sets sizes counts) ≤ rowLimit
+  pub sum : valueBytes (runsOf sets sizes counts) ≤ mostBytes
+  pub all : rowCount (runsOf sets sizes counts) ≤ mostRows
   pub low : (k : ℕ) → getD after k 0 < 2 ^ 40
 
 -- ---- tails
@@ -132,9 +132,9 @@ pub record FoundIs (runs : List Row) (after : List ℕ) (found : Found) : Type 0
 pub record Fit (sets sizes counts costs firsts : List ℕ) : Type 0 where
   pub same : length sizes ≡ length sets
   pub also : length counts ≡ length sets
-  pub few : length sets ≤ rowLimit
-  pub sum : valueBytes (runsOf sets sizes counts) ≤ textLimit
-  pub all : rowCount (runsOf sets sizes counts) ≤ rowLimit
+  pub few : length sets ≤ mostRows
+  pub sum : valueBytes (runsOf sets sizes counts) ≤ mostBytes
+  pub all : rowCount (runsOf sets sizes counts) ≤ mostRows
   pub costs-length : length costs ≡ length sets + 1
   pub firsts-length : length firsts ≡ length sets
 

@@ -6,13 +6,13 @@ use Prim.Native.Nat.{ℕ, _≤_}
 use lib.Dec.{leb, eqb}
 use lib.ListN.{length, take, drop}
 use Rattle.cuts.specs.Cuts.{cost, Wanted}
-use Rattle.cuts.specs.Block.{rowLimit, textLimit, Row, rowsOf, total, blockBytes, allMore}
+use Rattle.cuts.specs.Block.{mostRows, mostBytes, Row, rowsOf, total, blockBytes, allMore}
 use Rattle.cuts.specs.declared.Plan.{Plan}
 
 -- The input is ready: a size for each set, rows and sizes within the limits, and room for as many cuts as rows.
 unfoldable pub ready : List ℕ → List ℕ → List ℕ → Bool
 ready sets sizes cuts =
-    eqb (length sizes) (length sets) && (leb (length sets) rowLimit && (leb (length sets) (length cuts) && leb (total sizes) textLimit))
+    eqb (length sizes) (length sets) && (leb (length sets) mostRows && (leb (length sets) (length cuts) && leb (total sizes) mostBytes))
 
 -- The plan is right: as many of the lent numbers as it has blocks are the wanted cut list, its bytes are what that costs, and the
 -- numbers after them stay.
@@ -34,5 +34,5 @@ Answered true rows plan before after = Planned allMore rows plan before after
 Answered false rows plan before after = Unplanned plan before after
 
 -- The plan is right where the input is ready, else empty.
-abbrev pub Promised : List ℕ → List ℕ → Plan → List ℕ → List ℕ → Type 0
-Promised sets sizes plan before after = Answered (ready sets sizes before) (rowsOf sets sizes) plan before after
+abbrev pub ShortestPromised : List ℕ → List ℕ → Plan → List ℕ → List ℕ → Type 0
+ShortestPromised sets sizes plan before after = Answered (ready sets sizes before) (rowsOf sets sizes) plan before after

@@ -5,7 +5,7 @@ use mathlib.Core.List.{List, [], _∷_}
 use Prim.Native.Nat.{ℕ, _+_, _^_, _≤_, _<_}
 use lib.Dec.{eqb}
 use lib.ListN.{length, take, drop, getD}
-use Rattle.cuts.specs.Block.{rowLimit, textLimit, Row, row, rowsOf, total, valueBytes, rowCount, blockBytes}
+use Rattle.cuts.specs.Block.{mostRows, mostBytes, Row, row, rowsOf, total, valueBytes, rowCount, blockBytes}
 use Rattle.cuts.specs.Cheapest.{bestCost, chosen}
 use Rattle.cuts.specs.declared.Plan.{Plan}
 
@@ -57,17 +57,17 @@ inRows (k ∷ ks) counts = total (take k counts) ∷ inRows ks (drop k counts)
 -- The rows are within the limits, and there is room for their cuts.
 pub record Ready (sets sizes cuts : List ℕ) : Type 0 where
   pub same : length sizes ≡ length sets
-  pub few : length sets ≤ rowLimit
-  pub sum : valueBytes (rowsOf sets sizes) ≤ textLimit
+  pub few : length sets ≤ mostRows
+  pub sum : valueBytes (rowsOf sets sizes) ≤ mostBytes
   pub room : length sets ≤ length cuts
 
 -- The runs are within the limits, and there is room for their cuts.
 pub record ReadyRuns (sets sizes counts cuts : List ℕ) : Type 0 where
   pub same : length sizes ≡ length sets
   pub also : length counts ≡ length sets
-  pub few : length sets ≤ rowLimit
-  pub sum : valueBytes (runsOf sets sizes counts) ≤ textLimit
-  pub all : rowCount (runsOf sets sizes counts) ≤ rowLimit
+  pub few : length sets ≤ mostRows
+  pub sum : valueBytes (runsOf sets sizes counts) ≤ mostBytes
+  pub all : rowCount (runsOf sets sizes counts) ≤ mostRows
   pub room : length sets ≤ length cuts
 
 -- The chosen cut list of the runs is written, in rows, and the plan says its bytes.
@@ -80,8 +80,8 @@ pub record PlannedRuns (more : Row → List Row → ℕ) (runs : List Row) (coun
 -- The rows are within the limits, and there is room for their runs.
 pub record Room (sets sizes runSets runSizes runCounts : List ℕ) : Type 0 where
   pub same : length sizes ≡ length sets
-  pub few : length sets ≤ rowLimit
-  pub sum : valueBytes (rowsOf sets sizes) ≤ textLimit
+  pub few : length sets ≤ mostRows
+  pub sum : valueBytes (rowsOf sets sizes) ≤ mostBytes
   pub sizes-length : length runSizes ≡ length runSets
   pub counts-length : length runCounts ≡ length runSets
   pub fits : length (press (rowsOf sets sizes)) ≤ length runSets

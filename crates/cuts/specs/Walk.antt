@@ -3,7 +3,7 @@ use mathlib.Core.Path.{_≡_}
 use mathlib.Core.List.{List, [], _∷_, _++_}
 use Prim.Native.Nat.{ℕ, zero, suc, pred, _≤_}
 use lib.ListN.{length, take, drop}
-use Rattle.cuts.specs.Block.{rowLimit, total}
+use Rattle.cuts.specs.Block.{mostRows, total}
 use Rattle.cuts.specs.declared.cut_list.Walk.{Walk}
 
 -- The rows of each block, from the runs of the first blocks and the rows of the runs: after a block of f runs, the f - 1 that follow
@@ -18,7 +18,7 @@ blockRows (suc skip) (f ∷ firsts) (n ∷ counts) = blockRows skip firsts count
 pub record Walkable (firsts counts cuts : List ℕ) : Type 0 where
   pub same : length counts ≡ length firsts
   pub room : length firsts ≤ length cuts
-  pub few : total counts ≤ rowLimit
+  pub few : total counts ≤ mostRows
 
 -- The first i runs have been passed: what they give is written, and the rest of the cut list follows from the rest of the runs.
 pub record Written (firsts counts before : List ℕ) (i : ℕ) (walk : Walk) (cuts : List ℕ) : Type 0 where

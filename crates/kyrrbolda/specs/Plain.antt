@@ -13,7 +13,7 @@ use Rattle.kyrrbolda.specs.declared.KyrrShown.{KyrrShown}
 use Rattle.kyrrbolda.specs.declared.KyrrValued.{KyrrValued}
 use mathlib.Core.List.{List}
 use mathlib.Core.Path.{_≡_}
-use Rattle.pack.specs.Promise.{Promised}
+use Rattle.pack.specs.Promise.{PackPromised}
 use Rattle.pack.specs.declared.Packed.{Packed}
 use Rattle.pack.specs.declared.Packed.the-variants as Packed
 use Rattle.kyrrbolda.specs.declared.KyrrPacked.{KyrrPacked}
@@ -51,5 +51,5 @@ plainPacked (Packed.Refused x) = record { refused = numberOf (x .kind); line = x
 -- What packing promises: the entry's promise of the output before and after, with its answer as a plain struct.
 pub record PackedPlainly (report before after : List ℕ) (answer : KyrrPacked) : Type 0 where
   pub entry : Packed
-  pub promised : Promised report before after entry
+  pub promised : PackPromised report before after entry
   pub is : answer ≡ plainPacked entry

@@ -19,7 +19,7 @@ use Rattle.report.specs.declared.answer.Checked.the-variants as Checked
 use Rattle.report.proofs.AnswerLaws.{accepted-of, refused-of}
 use Rattle.report.proofs.Join.{read-accepted}
 use Rattle.cuts.specs.Cuts.{cost, Cuts}
-use Rattle.cuts.specs.Block.{rowLimit, textLimit, Row, total, valueBytes, bytesOf, blockBytes, allMore}
+use Rattle.cuts.specs.Block.{mostRows, mostBytes, Row, total, valueBytes, bytesOf, blockBytes, allMore}
 use Rattle.cuts.specs.Plan.{ready, Planned}
 use Rattle.cuts.specs.declared.Plan.{Plan}
 use Rattle.cuts.proofs.SumLaws.{values-append}
@@ -86,7 +86,7 @@ cost-values (suc k ∷ ks) (x ∷ xs) v =
     )
 
 -- The values of an accepted report are within the text limit.
-pub values-few : (report : List ℕ) (L : List Observation) → read report ≡ accepted L → total (map sizeOf L) ≤ textLimit
+pub values-few : (report : List ℕ) (L : List Observation) → read report ≡ accepted L → total (map sizeOf L) ≤ mostBytes
 values-few report L h =
     let c : Cutting L (length report) = no-shorter report L h in
     omega (
@@ -145,9 +145,9 @@ module _ {report : List ℕ} {index : Index} (is : read report ≡ accepted (obs
       let n = length-map (observed report) sizeOf in
       rw (
         eq-eqb (length (map sizeOf (observed report))) (length (map setOf (observed report))) (n ∙ sym m),
-        le-leb (length (map setOf (observed report))) rowLimit (omega (arith, accepted-rows report (observed report) is)),
+        le-leb (length (map setOf (observed report))) mostRows (omega (arith, accepted-rows report (observed report) is)),
         le-leb (length (map setOf (observed report))) (length cuts) (omega arith),
-        le-leb (total (map sizeOf (observed report))) textLimit (values-few report (observed report) is),
+        le-leb (total (map sizeOf (observed report))) mostBytes (values-few report (observed report) is),
       )
 
   -- So its cuts are those of the packed report.

@@ -14,7 +14,7 @@ use Rattle.report.specs.Answers.{request}
 use Rattle.report.specs.Index.{Index}
 use Rattle.layout.specs.Written.{written}
 use Rattle.cuts.specs.declared.Plan.{Plan}
-use Rattle.pack.specs.Promise.{PackedInto, Promised}
+use Rattle.pack.specs.Promise.{PackedInto, PackPromised}
 use Rattle.pack.specs.Inner.{observed, Wrote, BlocksAsk, CutIs, PlannedIs}
 use Rattle.pack.specs.declared.Packed.{Packed}
 use Rattle.pack.specs.declared.Packed.the-variants as Packed
@@ -23,15 +23,15 @@ use Rattle.pack.specs.declared.plan.Planned.the-variants as Planned
 
 -- The promise of an accepted report, and of a refused one.
 pub promised-accepted : {report before after : List ℕ} {answer : Packed} {L : List Observation} → read report ≡ accepted L
-    → PackedInto L before after answer → Promised report before after answer
+    → PackedInto L before after answer → PackPromised report before after answer
 promised-accepted e p = record { case = rw e p }
 
-pub promised-refused : (report output : List ℕ) (refusal : Refusal) → read report ≡ refused refusal → Promised report output output (Packed.Refused refusal)
+pub promised-refused : (report output : List ℕ) (refusal : Refusal) → read report ≡ refused refusal → PackPromised report output output (Packed.Refused refusal)
 promised-refused report output refusal e = record { case = rw e (record { answer-is = refl; output-is = refl }) }
 
 -- By what planning answered.
 pub planned-refused : {report : List ℕ} {index : Index} {cuts : List ℕ} {planned : Planned} {refusal : Refusal} (output : List ℕ)
-    → PlannedIs report index cuts planned → planned ≡ Planned.Refused refusal → Promised report output output (Packed.Refused refusal)
+    → PlannedIs report index cuts planned → planned ≡ Planned.Refused refusal → PackPromised report output output (Packed.Refused refusal)
 planned-refused {report} {refusal = refusal} output p e = promised-refused report output refusal (rw e at (p .case))
 
 pub planned-cut : {report : List ℕ} {index : Index} {cuts : List ℕ} {planned : Planned} {plan : Plan} → PlannedIs report index cuts planned
@@ -40,7 +40,7 @@ planned-cut p e = rw e at (p .case)
 
 module _ {report : List ℕ} {index : Index} {cuts : List ℕ} {plan : Plan} (c : CutIs report index cuts plan) (output : List ℕ) where
   -- The output is shorter than the packed report.
-  pub plan-short : length output < plan .bytes → Promised report output output (Packed.Refused (request OutputTooShort))
+  pub plan-short : length output < plan .bytes → PackPromised report output output (Packed.Refused (request OutputTooShort))
   plan-short h =
       let text : List ℕ = written (take (plan .blocks) cuts) (observed report) in
       let k : length output < length text = omega (arith, c .bytes-are) in
@@ -61,7 +61,7 @@ module _ {report : List ℕ} {index : Index} {cuts : List ℕ} {plan : Plan} (c 
 
     -- It is written.
     pub plan-written : {after : List ℕ} {n : ℕ} → Wrote (written (take (plan .blocks) cuts) (observed report)) output after n
-        → Promised report output after (Packed.Length n)
+        → PackPromised report output after (Packed.Length n)
     plan-written w =
         let text : List ℕ = written (take (plan .blocks) cuts) (observed report) in
         promised-accepted (c .is) (record {

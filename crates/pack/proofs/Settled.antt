@@ -17,34 +17,34 @@ use Rattle.layout.proofs.Unique.{unique}
 use Rattle.layout.proofs.Empty.{empty}
 use Rattle.layout.proofs.ReadsBack.{empty-reads}
 use Rattle.layout.proofs.SpecimenPacks.{specimen-reads, specimen-packs}
-use Rattle.pack.specs.Promise.{answerOf, PackedInto, Promised}
+use Rattle.pack.specs.Promise.{answerOf, PackedInto, PackPromised}
 use Rattle.pack.specs.declared.Packed.{Packed}
 use Rattle.pack.specs.declared.Packed.the-variants as Packed
 
 -- Of an accepted report whose packed report is known, the promise comes to its answer and its output.
 settled : {report before after : List ℕ} {answer : Packed} (L : List Observation) (text : List ℕ) → read report ≡ accepted L → PackedIs L text
-    → Promised report before after answer → (answer ≡ answerOf text before) × (after ≡ putOver text before)
+    → PackPromised report before after answer → (answer ≡ answerOf text before) × (after ≡ putOver text before)
 settled {before = before} L text e k p =
     let c : PackedInto L before _ _ = rw e at (p .case) in
     let s : c .text ≡ text = unique L (c .text) text (c .packed) k in
     (c .answer-is ∙ ap (λ (x : List ℕ). answerOf x before) s, c .output-is ∙ ap (λ (x : List ℕ). putOver x before) s)
 
 -- The specimen packs to itself where the output has room for its 104 bytes.
-pub specimen-written : {before after : List ℕ} {answer : Packed} → 104 ≤ length before → Promised specimen before after answer
+pub specimen-written : {before after : List ℕ} {answer : Packed} → 104 ≤ length before → PackPromised specimen before after answer
     → (answer ≡ Packed.Length 104) × (after ≡ over specimen before)
 specimen-written {before} h p =
     let s = settled (specimenObservation ∷ []) specimen specimen-reads specimen-packs p in
     (s .0 ∙ rw (le-leb 104 (length before) h), s .1 ∙ put-room specimen before h .1)
 
 -- One byte less is 15, and the output stays.
-pub specimen-short : {before after : List ℕ} {answer : Packed} → length before < 104 → Promised specimen before after answer
+pub specimen-short : {before after : List ℕ} {answer : Packed} → length before < 104 → PackPromised specimen before after answer
     → (answer ≡ Packed.Refused (request OutputTooShort)) × (after ≡ before)
 specimen-short {before} h p =
     let s = settled (specimenObservation ∷ []) specimen specimen-reads specimen-packs p in
     (s .0 ∙ rw (lt-leb 104 (length before) h), s .1 ∙ put-none specimen before h .1)
 
 -- Packing the empty report writes nothing.
-pub empty-written : {before after : List ℕ} {answer : Packed} → Promised [] before after answer → (answer ≡ Packed.Length 0) × (after ≡ before)
+pub empty-written : {before after : List ℕ} {answer : Packed} → PackPromised [] before after answer → (answer ≡ Packed.Length 0) × (after ≡ before)
 unfolding over
 empty-written {before} p =
     let s = settled [] [] empty-reads empty p in

@@ -5,11 +5,11 @@ use mathlib.Core.List.{List}
 use Rattle.text.specs.Output.{putOver}
 use Rattle.report.specs.Report.{Outcome, accepted, refused, read}
 use Rattle.layout.proofs.Unique.{unique}
-use Rattle.pack.specs.Promise.{answerOf, PromisedCase, Promised}
+use Rattle.pack.specs.Promise.{answerOf, PackCase, PackPromised}
 use Rattle.pack.specs.declared.Packed.{Packed}
 
-one-case : (outcome : Outcome) (before after other : List ℕ) (answer second : Packed) → PromisedCase outcome before after answer
-    → PromisedCase outcome before other second → (answer ≡ second) × (after ≡ other)
+one-case : (outcome : Outcome) (before after other : List ℕ) (answer second : Packed) → PackCase outcome before after answer
+    → PackCase outcome before other second → (answer ≡ second) × (after ≡ other)
 one-case (accepted L) before after other answer second p q =
     let e : p .text ≡ q .text = unique L (p .text) (q .text) (p .packed) (q .packed) in (
       p .answer-is ∙ (ap (λ (text : List ℕ). answerOf text before) e ∙ sym (q .answer-is)),
@@ -18,6 +18,6 @@ one-case (accepted L) before after other answer second p q =
 one-case (refused x) before after other answer second p q = (p .answer-is ∙ sym (q .answer-is), p .output-is ∙ sym (q .output-is))
 
 -- The promise settles the answer and every byte of the output.
-pub one-answer : (report before after other : List ℕ) (answer second : Packed) → Promised report before after answer → Promised report before other second
+pub one-answer : (report before after other : List ℕ) (answer second : Packed) → PackPromised report before after answer → PackPromised report before other second
     → (answer ≡ second) × (after ≡ other)
 one-answer report before after other answer second p q = one-case (read report) before after other answer second (p .case) (q .case)

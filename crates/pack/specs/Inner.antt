@@ -11,10 +11,10 @@ use Rattle.text.specs.Output.{over}
 use Rattle.element.specs.Table.{elements}
 use Rattle.element.specs.Observation.{Observation}
 use Rattle.report.specs.Report.{Outcome, accepted, refused, read}
-use Rattle.report.specs.Places.{places}
+use Rattle.report.specs.Starts.{startsIn}
 use Rattle.report.specs.Index.{Index, Noted}
 use Rattle.cuts.specs.Block.{nameBytes}
-use Rattle.cuts.specs.Plan.{Promised}
+use Rattle.cuts.specs.Plan.{ShortestPromised}
 use Rattle.cuts.specs.declared.Plan.{Plan}
 use Rattle.layout.specs.Packed.{PackedIs}
 use Rattle.layout.specs.Written.{columnOrder, passing, lineOf, valuesAt, dataLines, blockText, written, Valid}
@@ -35,7 +35,7 @@ pub record Indexed (report : List ℕ) (index : Index) : Type 0 where
   pub sets-room : length (observed report) ≤ length (index .sets)
   pub starts-room : length (observed report) * elements ≤ length (index .starts)
   pub lengths-room : length (observed report) * elements ≤ length (index .lengths)
-  pub noted : (i : ℕ) → i < length (observed report) → Noted report index i (getD (observed report) i []) (getD (places report) i [])
+  pub noted : (i : ℕ) → i < length (observed report) → Noted report index i (getD (observed report) i []) (getD (startsIn report) i [])
 
 -- The value of an element of a row of the report.
 abbrev pub valueIn : List ℕ → ℕ → ℕ → List ℕ
@@ -139,7 +139,7 @@ pub record SizesAre (sets lengths sizes : List ℕ) (count : ℕ) : Type 0 where
 pub record RowsCut (sets lengths sizes : List ℕ) (rows : ℕ) (before after : List ℕ) (plan : Plan) : Type 0 where
   pub filled : rows ≤ length sizes
   pub sizes-are : SizesAre sets lengths sizes rows
-  pub promised : Promised (take rows sets) (take rows sizes) plan before after
+  pub promised : ShortestPromised (take rows sets) (take rows sizes) plan before after
 
 -- The lent lists have room for so many rows, and the index for one row more, which the reader uses itself.
 pub record RoomFor (rows : ℕ) (index : Index) (sizes cuts : List ℕ) : Type 0 where

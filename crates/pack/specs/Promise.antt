@@ -33,10 +33,10 @@ pub record RefusedAs (refusal : Refusal) (before after : List ℕ) (answer : Pac
   pub output-is : after ≡ before
 
 -- By what the report reads as.
-abbrev pub PromisedCase : Outcome → List ℕ → List ℕ → Packed → Type 0
-PromisedCase (accepted observations) before after answer = PackedInto observations before after answer
-PromisedCase (refused refusal) before after answer = RefusedAs refusal before after answer
+abbrev pub PackCase : Outcome → List ℕ → List ℕ → Packed → Type 0
+PackCase (accepted observations) before after answer = PackedInto observations before after answer
+PackCase (refused refusal) before after answer = RefusedAs refusal before after answer
 
 -- The promise of packing a report: the output before and after, and the answer.
-pub record Promised (report before after : List ℕ) (answer : Packed) : Type 0 where
-  pub case : PromisedCase (read report) before after answer
+pub record PackPromised (report before after : List ℕ) (answer : Packed) : Type 0 where
+  pub case : PackCase (read report) before after answer

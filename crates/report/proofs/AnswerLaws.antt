@@ -15,7 +15,7 @@ use Rattle.element.specs.Form.{valueOf, hasValue}
 use Rattle.element.specs.Observation.{isPresent, bit}
 use Rattle.element.proofs.Sets.{has-set}
 use Rattle.report.specs.Report.{Outcome, accepted, refused, read}
-use Rattle.report.specs.Places.{places}
+use Rattle.report.specs.Starts.{startsIn}
 use Rattle.report.specs.Answers.{checkedOf, request, isObservation, isElement, valueAt, startAt, shownOf, showingOf, exact, valuedOf}
 use Rattle.report.specs.Index.{Index, roomIn, Noted, AcceptedIs, IndexCase, IndexIs}
 use Rattle.report.specs.Inner.{Room, slotShown, LocatedIs}
@@ -99,7 +99,7 @@ module _ {t : List ℕ} (n e : ℕ) {first : ℕ} {x : Index} {k : ℕ} (a : Acc
     }
 
     module _ (he : (ltb e 1 || ltb elements e) ≡ false) (f : first ≡ n - 1) where
-      note : Noted t x 0 (getD (a .rows) (n - 1) []) (getD (places t) (n - 1) [])
+      note : Noted t x 0 (getD (a .rows) (n - 1) []) (getD (startsIn t) (n - 1) [])
       note =
           let z : first + 0 ≡ n - 1 = omega arith in
           rw z at (a .noted 0 (omega arith) (omega (arith, inside n k hn)))
@@ -115,8 +115,8 @@ module _ {t : List ℕ} (n e : ℕ) {first : ℕ} {x : Index} {k : ℕ} (a : Acc
       unfolding slotShown
       located-noted {r} q = bools (isPresent (valueAt (a .rows) n e)) here gone
         where
-          known : showingOf (read t) (places t) n e
-              ≡ cond (isPresent (valueAt (a .rows) n e)) (Showing.At (startAt (places t) n e) (length (valueAt (a .rows) n e))) Showing.Absent
+          known : showingOf (read t) (startsIn t) n e
+              ≡ cond (isPresent (valueAt (a .rows) n e)) (Showing.At (startAt (startsIn t) n e) (length (valueAt (a .rows) n e))) Showing.Absent
           known = rw (a .is, a .count, inside-is n k (inside n k hn), inside-is e elements (inside e elements he))
 
           shown-known : shownOf (read t) n e ≡ valueAt (a .rows) n e
@@ -126,13 +126,13 @@ module _ {t : List ℕ} (n e : ℕ) {first : ℕ} {x : Index} {k : ℕ} (a : Acc
           here p =
               let z : 0 * elements + (e - 1) ≡ e - 1 = omega arith in
               let s = rw z at (note .shows (e - 1) (element-low e he) p) in
-              let g : r ≡ Showing.At (startAt (places t) n e) (length (valueAt (a .rows) n e)) =
+              let g : r ≡ Showing.At (startAt (startsIn t) n e) (length (valueAt (a .rows) n e)) =
               q ∙ rw (bit-is, p, s .start-is, s .length-is) in
               record {
                 is = rw (known, p) g;
                 lies = λ start size y.
-                    let w : Showing.At (startAt (places t) n e) (length (valueAt (a .rows) n e)) ≡ Showing.At start size = sym g ∙ y in
-                    let w₀ : startAt (places t) n e ≡ start = cc in
+                    let w : Showing.At (startAt (startsIn t) n e) (length (valueAt (a .rows) n e)) ≡ Showing.At start size = sym g ∙ y in
+                    let w₀ : startAt (startsIn t) n e ≡ start = cc in
                     let w₁ : length (valueAt (a .rows) n e) ≡ size = cc in
                     rw (← w₀, ← w₁, shown-known) (s .inside, s .holds);
               }
@@ -203,10 +203,10 @@ module _ {t : List ℕ} {n e : ℕ} {r : Showing} (i : LocatedIs t n e r) where
       (l .0, rw c (l .1))
 
   pub shown-absent : r ≡ Showing.Absent → [] ≡ shownOf (read t) n e
-  shown-absent q = shown-empty (read t) (places t) n e (λ s l g. at-absent (sym q ∙ (i .is ∙ g)))
+  shown-absent q = shown-empty (read t) (startsIn t) n e (λ s l g. at-absent (sym q ∙ (i .is ∙ g)))
 
   pub shown-refused : {z : Refusal} → r ≡ Showing.Refused z → [] ≡ shownOf (read t) n e
-  shown-refused q = shown-empty (read t) (places t) n e (λ s l g. at-refused (sym q ∙ (i .is ∙ g)))
+  shown-refused q = shown-empty (read t) (startsIn t) n e (λ s l g. at-refused (sym q ∙ (i .is ∙ g)))
 
   -- ---- what it is worth
 
@@ -214,10 +214,10 @@ module _ {t : List ℕ} {n e : ℕ} {r : Showing} (i : LocatedIs t n e r) where
       → a ≡ cond (hasValue (e - 1)) (exact (valueOf (e - 1) (take (start + size - start) (drop start t)))) Valued.NoValue → a ≡ valuedOf (read t) n e
   value-at {start} {size} q {a} w =
       w ∙ (ap (λ (v : List ℕ). cond (hasValue (e - 1)) (exact (valueOf (e - 1) v)) Valued.NoValue) (shown-at q .1)
-      ∙ present-valued (read t) (places t) n e start size (sym (i .is) ∙ q))
+      ∙ present-valued (read t) (startsIn t) n e start size (sym (i .is) ∙ q))
 
   pub value-absent : r ≡ Showing.Absent → {a : Valued} → a ≡ cond (hasValue (e - 1)) Valued.Absent Valued.NoValue → a ≡ valuedOf (read t) n e
-  value-absent q w = w ∙ absent-valued (read t) (places t) n e (sym (i .is) ∙ q)
+  value-absent q w = w ∙ absent-valued (read t) (startsIn t) n e (sym (i .is) ∙ q)
 
   pub value-refused : {z : Refusal} → r ≡ Showing.Refused z → Valued.Refused z ≡ valuedOf (read t) n e
-  value-refused {z} q = refused-valued (read t) (places t) n e z (sym (i .is) ∙ q)
+  value-refused {z} q = refused-valued (read t) (startsIn t) n e z (sym (i .is) ∙ q)

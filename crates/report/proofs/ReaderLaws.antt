@@ -18,7 +18,7 @@ use Rattle.refusal.specs.declared.Refusal.{Refusal}
 use Rattle.element.specs.Table.{elements}
 use Rattle.element.specs.Observation.{Observation}
 use Rattle.report.specs.Report.{row, bad, Outcome, accepted, refused, more, atEnd, after, readFrom, begin, read, textLimit, rowLimit}
-use Rattle.report.specs.Places.{placed, placesFrom, places, startsOf}
+use Rattle.report.specs.Starts.{startsAfter, startsFrom, startsIn, startsOf}
 use Rattle.report.specs.Index.{Index, Noted, AcceptedIs, IndexCase, IndexIs}
 use Rattle.report.specs.Inner.{between, stateOf, Known, Room, KeptBut, NextIs, RowTaken, LineAsks, TookLine, stepAt, slotOf, checkedAt}
 use Rattle.report.specs.declared.answer.Checked.{Checked}
@@ -116,7 +116,7 @@ pub record Reading (t columns : List ℕ) (first room : ℕ) (x₀ x : Index) (a
   pub spots-count : length spots ≡ k
   pub noted : (i : ℕ) → i < room → first + i < k → Noted t x i (getD rows (first + i) []) (getD spots (first + i) [])
   pub rest : readFrom begin 1 0 (lines t) ≡ prefix rows (readFrom (stateOf s columns) number k (lines (drop at t)))
-  pub left : placesFrom begin 0 0 (lines t) ≡ spots ++ placesFrom (stateOf s columns) at k (lines (drop at t))
+  pub left : startsFrom begin 0 0 (lines t) ≡ spots ++ startsFrom (stateOf s columns) at k (lines (drop at t))
 
 pub read-start : {t columns : List ℕ} {first room : ℕ} {x : Index} → length columns ≡ elements → length t ≤ textLimit → Room x room
     → Reading t columns first room x x 0 1 0 (record { need = Need.Version; columns = 0 })
@@ -146,8 +146,8 @@ module _ {t columns : List ℕ} {first room : ℕ} {x₀ x : Index} {at number k
   unfolding readFrom
   read-end h = read-short t (v .short) ∙ (v .rest ∙ rw (drop-of-length-le t h))
 
-  spots-end : length t ≤ at → places t ≡ v .spots
-  unfolding places placesFrom
+  spots-end : length t ≤ at → startsIn t ≡ v .spots
+  unfolding startsIn startsFrom
   spots-end h = v .left ∙ (rw (drop-of-length-le t h) (append-nil (v .spots)))
 
   read-done : length t ≤ at → atEnd (s .need) number ≡ accepted [] → AcceptedIs t first room x k
@@ -226,11 +226,11 @@ module _ {t columns : List ℕ} {first room : ℕ} {x₀ x : Index} {at number k
       unfolding readFrom
       on = v .rest ∙ rw split
 
-      on-places : placesFrom begin 0 0 (lines t)
-          ≡ v .spots ++ placed (stepAt t at (at + size) s columns k) (stateOf s columns) k at (between t at (at + size))
-          (λ s′ k′. placesFrom s′ (at + size + 1) k′ (lines (drop (at + size + 1) t)))
-      unfolding placesFrom
-      on-places = v .left ∙ rw (split, line-long)
+      on-starts : startsFrom begin 0 0 (lines t)
+          ≡ v .spots ++ startsAfter (stepAt t at (at + size) s columns k) (stateOf s columns) k at (between t at (at + size))
+          (λ s′ k′. startsFrom s′ (at + size + 1) k′ (lines (drop (at + size + 1) t)))
+      unfolding startsFrom
+      on-starts = v .left ∙ rw (split, line-long)
 
       module _ {columns′ : List ℕ} {y : Index} {slot : ℕ} {r : Taken} (took : TookLine t columns columns′ x y at (at + size) slot k s (stepAt t at (at + size) s columns k) r) where
         pub read-bad : {kind : Kind} {p : ℕ} → r ≡ Taken.Refused kind p → {a : Checked} → a ≡ Checked.Refused (record { kind = kind; line = number; place = p }) → IndexIs t first room y a
@@ -260,7 +260,7 @@ module _ {t columns : List ℕ} {first room : ℕ} {x₀ x : Index} {at number k
                 spots-count = v .spots-count;
                 noted = λ i a b. rw (n .same) (v .noted i a b);
                 rest = on ∙ rw (n .is, add-one number);
-                left = on-places ∙ rw (n .is);
+                left = on-starts ∙ rw (n .is);
               }
 
           noted-row : slot ≡ slotOf first room k → RowTaken t columns columns′ x y at (at + size) slot k s (stepAt t at (at + size) s columns k)
@@ -300,7 +300,7 @@ module _ {t columns : List ℕ} {first room : ℕ} {x₀ x : Index} {at number k
                     rw (List·getD-append (v .rows) (n .got ∷ []) [] (first + i) mr, List·getD-append (v .spots) (spot ∷ []) [] (first + i) ms)
                     (noted-kept (n .kept) i w (v .noted i a m)));
                 rest = on ∙ (rw (n .is, add-one number, add-one k, n .same) (prefix-snoc (v .rows) (n .got) _));
-                left = on-places ∙ rw (n .is, add-one k, n .same, append-assoc);
+                left = on-starts ∙ rw (n .is, add-one k, n .same, append-assoc);
               }
 
           pub read-row : slot ≡ slotOf first room k → r ≡ Taken.Noted

@@ -26,7 +26,7 @@ use Rattle.element.specs.Observation.{Observation, isPresent, setOf, isWgs84, i
 use Rattle.element.specs.declared.form.Check.the-variants.{Fine, Bad}
 use Rattle.element.proofs.Sets.{set-mark, set-fault}
 use Rattle.report.specs.Report.{fieldFault, fill, rowOf, dataLine, bad, rowLimit}
-use Rattle.report.specs.Places.{fillStarts, startsOf}
+use Rattle.report.specs.Starts.{fillStarts, startsOf}
 use Rattle.report.specs.Index.{Index, lent, Shows, Noted}
 use Rattle.report.specs.Inner.{between, marksOf, markOn, takenBy, heldBy, Kept, FieldsAsk, FieldsGood, FieldsAre, RowAsks, RowCase, RowIs}
 use Rattle.report.specs.declared.row.Marks.{Marks}

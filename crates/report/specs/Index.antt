@@ -7,7 +7,7 @@ use lib.ListN.{length, take, drop, getD}
 use Rattle.element.specs.Table.{elements}
 use Rattle.element.specs.Observation.{Observation, isPresent, setOf}
 use Rattle.report.specs.Report.{accepted, refused, read, rowLimit}
-use Rattle.report.specs.Places.{places}
+use Rattle.report.specs.Starts.{startsIn}
 use Rattle.report.specs.declared.answer.Checked.{Checked}
 use Rattle.report.specs.declared.answer.Checked.the-variants as Checked
 
@@ -50,7 +50,7 @@ pub record AcceptedIs (t : List ℕ) (first room : ℕ) (x : Index) (k : ℕ) : 
   pub is : read t ≡ accepted rows
   pub count : length rows ≡ k
   pub few : k ≤ rowLimit
-  pub noted : (i : ℕ) → i < room → first + i < k → Noted t x i (getD rows (first + i) []) (getD (places t) (first + i) [])
+  pub noted : (i : ℕ) → i < room → first + i < k → Noted t x i (getD rows (first + i) []) (getD (startsIn t) (first + i) [])
 
 -- What indexing promises. Of a refused report only the refusal: the lists are then settled by nothing.
 abbrev pub IndexCase : List ℕ → ℕ → ℕ → Index → Checked → Type 0

@@ -1,5 +1,5 @@
 pub mod Report
-pub mod Places
+pub mod Starts
 pub mod Answers
 pub mod Index
 pub mod Inner

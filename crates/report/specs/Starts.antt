@@ -19,17 +19,17 @@ abbrev pub startsOf : List ℕ → List (List ℕ) → ℕ → List ℕ
 startsOf columns fs at = fillStarts columns fs at (replicate elements 0)
 
 -- After a line that begins at a place: an observation's starts are put before those of the text that goes on.
-abbrev pub placed : Step → State → ℕ → ℕ → List ℕ → (State → ℕ → List (List ℕ)) → List (List ℕ)
-placed (next s) old k at l go = go s k
-placed (row o) old k at l go = startsOf (old .columns) (fields l) at ∷ go (afterRow old) (suc k)
-placed (bad kind p) old k at l go = []
+abbrev pub startsAfter : Step → State → ℕ → ℕ → List ℕ → (State → ℕ → List (List ℕ)) → List (List ℕ)
+startsAfter (next s) old k at l go = go s k
+startsAfter (row o) old k at l go = startsOf (old .columns) (fields l) at ∷ go (afterRow old) (suc k)
+startsAfter (bad kind p) old k at l go = []
 
 -- The starts of each observation's values, from a place of the text on.
-unfoldable pub placesFrom : State → ℕ → ℕ → Lines → List (List ℕ)
-placesFrom s at k end = []
-placesFrom s at k (cut l) = []
-placesFrom s at k (line l ls) = placed (step s k l) s k at l (λ s′ k′. placesFrom s′ (at + suc (length l)) k′ ls)
+unfoldable pub startsFrom : State → ℕ → ℕ → Lines → List (List ℕ)
+startsFrom s at k end = []
+startsFrom s at k (cut l) = []
+startsFrom s at k (line l ls) = startsAfter (step s k l) s k at l (λ s′ k′. startsFrom s′ (at + suc (length l)) k′ ls)
 
 -- The starts of each observation's values in a report, by element.
-unfoldable pub places : List ℕ → List (List ℕ)
-places t = placesFrom begin 0 0 (lines t)
+unfoldable pub startsIn : List ℕ → List (List ℕ)
+startsIn t = startsFrom begin 0 0 (lines t)
