@@ -5,16 +5,20 @@ use mathlib.Core.Bool.{Bool, true, false, not, _&&_}
 use mathlib.Core.List.{List, [], _∷_}
 use native.Mathlib.Numerals.{add-one}
 use lib.Dec.{T, eqb, leb, ltb, eqb→eq, leb→le}
-use lib.ListN.{length, getD, take, drop, length-drop}
+use lib.ListN.{length, getD, take, drop, length-drop, List·getD-eq-default}
 use lib.Seq.{drop-cons, getD-drop}
 use native.Mathlib.Omega.{arith}
-use borrow.Author.Tests.{ltb-true, eqb-false}
+use borrow.Author.Tests.{ltb-true, ltb-false, leb-true, eqb-false}
 use Rattle.text.specs.Part.{same}
 use Rattle.text.proofs.Bools.{T-true, bools}
 use Rattle.text.proofs.Parts.{same-is}
 use Rattle.text.proofs.Table.{passes, below}
 use Rattle.element.specs.Names.{allNames, nameStarts}
-use Rattle.element.specs.Table.{elements, names, nameOf, indexIn, indexOf}
+use Rattle.element.specs.Table.{elements, table, names, nameOf, indexIn, indexOf}
+
+-- The table has as many rows as there are elements.
+pub table-length : length table ≡ elements
+table-length = refl
 
 -- The part of all names from where a name starts to where the next one does.
 abbrev pub cut : ℕ → List ℕ
@@ -41,9 +45,9 @@ start-test : ℕ → Bool
 start-test place = ltb (getD nameStarts place 0) 256
 
 -- Every start is a byte.
-pub start-small : (place : ℕ) → place < 30 → getD nameStarts place 0 < 256
+pub start-small : (place : ℕ) → place < elements + 1 → getD nameStarts place 0 < 256
 unfolding start-test
-start-small place h = ltb-true _ _ (T-true _ (below start-test 30 tt place h))
+start-small place h = ltb-true _ _ (T-true _ (below start-test (elements + 1) tt place h))
 
 -- The part is the name, it is as long as the name, and the starts are in order.
 module _ (index : ℕ) (h : index < elements) where
@@ -129,3 +133,10 @@ module _ (index : ℕ) (h : index < elements) where
 
   pub name-bytes : every isNameByte (nameOf index) ≡ true
   name-bytes = every-name (every isNameByte) tt index h
+
+-- A name has 16 bytes at most.
+pub name-short : (index : ℕ) → length (nameOf index) ≤ 16
+name-short index =
+    bools (ltb index elements)
+    (λ t. leb-true _ 16 (every-name (λ name. leb (length name) 16) tt index (ltb-true index elements t)))
+    (λ t. rw (List·getD-eq-default names [] {n = index} (ltb-false index elements t)) (omega arith))

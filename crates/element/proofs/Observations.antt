@@ -1,12 +1,11 @@
 -- Laws of searches among element numbers, each in the form that a loop asks for, and of identification.
-use Prim.Native.Nat.{ℕ, _+_, _/_, _%_, _^_, _≤_, _<_}
+use Prim.Native.Nat.{ℕ, _+_, _≤_, _<_}
 use mathlib.Core.Path.{_≡_, refl}
 use mathlib.Core.Bool.{Bool, true, false, cond}
 use mathlib.Core.List.{List, []}
-use native.Mathlib.Nat.{div-eq-of-lt, lt-of-lt-of-le, pow-le-pow-right}
 use native.Mathlib.Numerals.{add-one}
 use native.Mathlib.Omega.{arith}
-use lib.Dec.{eqb, lit<}
+use lib.Dec.{lit<}
 use lib.ListN.{length, getD, drop, drop-of-length-le}
 use lib.Seq.{drop-cons}
 use Rattle.refusal.specs.declared.Fault.{Fault}
@@ -40,10 +39,6 @@ module _ (numbers : List ℕ) (holds : ℕ → Bool) (i : ℕ) where
   pub missing-end : length numbers ≤ i → firstMissing (drop i numbers) holds ≡ 0
   unfolding firstMissing
   missing-end h = rw drop-of-length-le
-
--- A set of 64 bits has no bit past them.
-pub none-past : (set e : ℕ) → set < 2 ^ 64 → 64 ≤ e → eqb (set / 2 ^ e % 2) 1 ≡ false
-none-past set e h k = rw (div-eq-of-lt (lt-of-lt-of-le h (pow-le-pow-right {n = 2} (lit< tt) {i = 64} {j = e} k)))
 
 -- What is sound came out of the first case.
 sound-test : (t : Bool) (rest : Fault) → cond t rest (At ElementMissing 1) ≡ Sound → t ≡ true

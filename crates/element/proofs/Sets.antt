@@ -1,15 +1,142 @@
--- Laws of the set of the elements that are present in an observation.
-use Prim.Native.Nat.{ℕ, zero, suc, _+_, _-_, _*_, _/_, _%_, _^_, _<_}
+-- Laws of sets of elements: their lengths together, and the set of the elements that are present in an observation.
+use Prim.Native.Nat.{ℕ, zero, suc, _+_, _-_, _*_, _/_, _%_, _^_, _≤_, _<_}
 use mathlib.Core.Path.{_≡_, refl, sym, ap, fun-ext, _∙_}
 use mathlib.Core.Bool.{Bool, true, false}
 use mathlib.Core.List.{List, [], _∷_}
-use native.Mathlib.Nat.{pow-suc, pow-succ', zero-div, div-one, div-div-eq-div-mul, add-zero}
+use native.Mathlib.Nat.{pow-suc, pow-succ', zero-div, div-one, div-div-eq-div-mul, div-eq-of-lt, lt-of-lt-of-le, pow-le-pow-right, add-zero, mul-suc, mul-add}
+use native.Mathlib.Numerals.{add-one}
 use native.Mathlib.Omega.{arith}
 use lib.Bits.{bitOr, or-block, or-zero-r}
+use lib.Count.{ones, ones-step, ones-le}
 use lib.Dec.{eqb, lit<}
-use lib.ListN.{length, getD, set, replicate}
-use lib.Seq.{set-getD}
-use Rattle.element.specs.Observation.{Observation, isPresent, isHeld, isWgs84, isEarth, isIn, bit, setOf, faultIn, setFault, observationFault}
+use lib.ListN.{length, getD, drop, set, replicate, drop-of-length-le, List·getD-map}
+use lib.Seq.{set-getD, drop-cons}
+use mir.Syntax.{w32}
+use mir.Val.{Fits}
+use Rattle.element.specs.Set.{has, joined, lengthIf, bytesIn, nameLengths, nameBytes}
+use Rattle.element.specs.Table.{elements, names, nameOf}
+use Rattle.element.proofs.Names.{name-short}
+use Rattle.element.specs.Observation.{Observation, isPresent, isWgs84, isEarth, bit, setOf, faultIn, setFault, observationFault}
+
+-- ---- sets
+
+-- A set of 64 bits has no element past them.
+pub has-not : (set e : ℕ) → set < 2 ^ 64 → 64 ≤ e → has set e ≡ false
+has-not set e h k = rw (div-eq-of-lt (lt-of-lt-of-le h (pow-le-pow-right {n = 2} (lit< tt) {i = 64} {j = e} k)))
+
+-- One set more, and the end.
+pub joined-next : (sets : List ℕ) (all i : ℕ) → i < length sets → joined (bitOr all (getD sets i 0)) (drop (i + 1) sets) ≡ joined all (drop i sets)
+unfolding joined
+joined-next sets all i h = rw (drop-cons sets i 0 h, add-one i)
+
+pub joined-end : (sets : List ℕ) (all i : ℕ) → length sets ≤ i → joined all (drop i sets) ≡ all
+unfolding joined
+joined-end sets all i h = rw drop-of-length-le
+
+-- ---- lengths
+
+-- A length where the bit is set.
+pub length-bit : (bit length : ℕ) → (bit ≡ 0 → ⊥) → length ≡ lengthIf bit length
+length-bit zero length h = absurd (h refl)
+length-bit (suc bit) length h = refl
+
+-- The lengths from one element on, and past the last one.
+module _ (lengths : List ℕ) (e left : ℕ) where
+  bytes-step : e < length lengths → bytesIn (drop e lengths) left ≡ lengthIf (left % 2) (getD lengths e 0) + bytesIn (drop (e + 1) lengths) (left / 2)
+  unfolding bytesIn
+  bytes-step h = rw (add-one, drop-cons lengths e 0)
+
+  bytes-end : length lengths ≤ e → bytesIn (drop e lengths) left ≡ 0
+  unfolding bytesIn
+  bytes-end h = rw (drop-of-length-le lengths)
+
+-- A length where the bit is set is no more than the length.
+length-le : (bit l : ℕ) → lengthIf bit l ≤ l
+length-le zero l = omega arith
+length-le (suc bit) l = omega arith
+
+-- Lengths of which none is above a bound.
+module _ (most : ℕ) where
+  -- A length where the bit is set.
+  length-low : (bit l : ℕ) → bit < 2 → l ≤ most → lengthIf bit l ≤ most * bit
+  length-low zero l b h = omega arith
+  length-low (suc zero) l b h = omega arith
+  length-low (suc (suc bit)) l b h = absurd (omega arith)
+
+  -- Together they are no more than the bound for each element of the set.
+  pub bytes-ones : (lengths : List ℕ) (set : ℕ) → ((e : ℕ) → getD lengths e 0 ≤ most) → bytesIn lengths set ≤ most * ones set
+  unfolding bytesIn
+  bytes-ones [] set h = omega arith
+  bytes-ones (l ∷ ls) set h =
+      rw (ones-step set, mul-add most (set % 2) (ones (set / 2)))
+      (omega (arith, length-low (set % 2) l (omega arith) (h 0), bytes-ones ls (set / 2) (λ e. h (suc e))))
+
+  -- They are no more than the bound for each length.
+  pub bytes-low : (lengths : List ℕ) (set : ℕ) → ((e : ℕ) → getD lengths e 0 ≤ most) → bytesIn lengths set ≤ most * length lengths
+  unfolding bytesIn
+  bytes-low [] set h = omega arith
+  bytes-low (l ∷ ls) set h =
+      omega (arith, mul-suc most (length ls), length-le (set % 2) l, h 0, bytes-low ls (set / 2) (λ e. h (suc e)))
+
+-- The bytes of the elements passed, and those of the elements from e on, are those of the set.
+pub record Adds (lengths : List ℕ) (set left sum e : ℕ) : Type 0 where
+  pub within : e ≤ length lengths
+  pub sum-left : sum + bytesIn (drop e lengths) left ≡ bytesIn lengths set
+
+pub adds-none : (lengths : List ℕ) (set : ℕ) → Adds lengths set set 0 0
+adds-none lengths set = record { within = omega arith; sum-left = omega arith }
+
+module _ {lengths : List ℕ} {set left sum e : ℕ} (a : Adds lengths set left sum e) where
+  -- One element more: p is its length where it is in the set.
+  module _ (p : ℕ) (h : e < length lengths) (q : p ≡ lengthIf (left % 2) (getD lengths e 0)) where
+    pub adds-more : Adds lengths set (left / 2) (sum + p) (e + 1)
+    adds-more = record { within = omega arith; sum-left = omega (arith, a .sum-left, bytes-step lengths e left h) }
+
+    pub adds-fit : bytesIn lengths set < 2 ^ 32 → Fits w32 (sum + p)
+    adds-fit f = record { fits = omega (arith, adds-more .sum-left) }
+
+  -- The end of the lengths.
+  pub adds-all : length lengths ≤ e → sum ≡ bytesIn lengths set
+  adds-all h = omega (arith, a .sum-left, bytes-end lengths e left h)
+
+pub ruleset add-needs = (adds-none, adds-more, adds-fit, adds-all)
+
+-- Values noted in 16 bits each, of a set of 64 bits, have bytes that 32 bits can count.
+pub values-fit : (lengths : List ℕ) (set : ℕ) → ((e : ℕ) → getD lengths e 0 < 65536) → set < 2 ^ 64 → bytesIn lengths set < 2 ^ 32
+values-fit lengths set h s = omega (arith, bytes-ones 65535 lengths set (λ e. omega (arith, h e)), ones-le 64 set s)
+
+-- ---- names
+
+-- There is a length for each element, and it is that of the element's name.
+pub name-lengths-length : length nameLengths ≡ elements
+unfolding nameLengths
+name-lengths-length = refl
+
+pub name-length : (e : ℕ) → getD nameLengths e 0 ≡ length (nameOf e)
+unfolding nameLengths
+name-length e = List·getD-map length names e []
+
+-- The names of any set are short.
+pub names-low : (set : ℕ) → nameBytes set ≤ 1024
+names-low set =
+    omega (arith, bytes-low 16 nameLengths set (λ e. omega (arith, name-length e, name-short e)), name-lengths-length)
+
+-- One name more: p is its length where its element is in the set.
+module _ {set left sum e : ℕ} (a : Adds nameLengths set left sum e) (h : e < elements) (l : ℕ) (n : l ≡ length (nameOf e)) (p : ℕ)
+    (q : p ≡ lengthIf (left % 2) l) where
+  inside : e < length nameLengths
+  inside = rw name-lengths-length h
+
+  added : p ≡ lengthIf (left % 2) (getD nameLengths e 0)
+  added = q ∙ ap (lengthIf (left % 2)) (n ∙ sym (name-length e))
+
+  pub name-more : Adds nameLengths set (left / 2) (sum + p) (e + 1)
+  name-more = adds-more a p inside added
+
+  pub name-fits : Fits w32 (sum + p)
+  name-fits = adds-fit a p inside added (omega (arith, names-low set))
+
+-- ---- the set of an observation
 
 -- A bit is 0 or 1.
 pub bit-small : (t : Bool) → bit t < 2
@@ -66,11 +193,11 @@ bit-test : (t : Bool) → eqb (bit t) 1 ≡ t
 bit-test true = refl
 bit-test false = refl
 
--- The element of a number is in the set where it is held.
-pub in-set : (o : Observation) (number : ℕ) → isIn (setOf o) number ≡ isHeld o number
-in-set o number = ap (λ (n : ℕ). eqb n 1) (has-set o (number - 1)) ∙ bit-test (isHeld o number)
+-- An element is in the set where it is present.
+pub has-present : (o : Observation) (e : ℕ) → has (setOf o) e ≡ isPresent (getD o e [])
+has-present o e = ap (λ (n : ℕ). eqb n 1) (has-set o e) ∙ bit-test (isPresent (getD o e []))
 
 -- The fault from the set is the fault of the observation.
 pub set-fault : (o : Observation) → setFault (setOf o) (isWgs84 o) (isEarth o) ≡ observationFault o
 unfolding setFault observationFault
-set-fault o = ap (λ (holds : ℕ → Bool). faultIn holds (isWgs84 o) (isEarth o)) (fun-ext (in-set o))
+set-fault o = ap (λ (holds : ℕ → Bool). faultIn holds (isWgs84 o) (isEarth o)) (fun-ext (λ number. has-present o (number - 1)))

@@ -1,5 +1,6 @@
 pub mod Form
 pub mod Names
 pub mod Observation
+pub mod Set
 pub mod Sums
 pub mod Table

@@ -1,17 +1,23 @@
 -- For the contracts of private functions: the names as the code holds them, one after the other.
-use Prim.Native.Nat.{ℕ}
+use Prim.Native.Nat.{ℕ, _+_}
 use mathlib.Core.List.{List, [], _∷_, _++_}
+use lib.ListN.{length}
 use Rattle.element.specs.Table.{names}
 
 -- Texts, one after the other.
-abbrev pub joined : List (List ℕ) → List ℕ
-joined [] = []
-joined (text ∷ texts) = text ++ joined texts
+abbrev pub endToEnd : List (List ℕ) → List ℕ
+endToEnd [] = []
+endToEnd (text ∷ texts) = text ++ endToEnd texts
 
 -- The names of all elements, one after the other.
 abbrev pub allNames : List ℕ
-allNames = joined names
+allNames = endToEnd names
+
+-- Where each of these texts starts, the first at a place and each next one where the one before it ends, and where the last one ends.
+abbrev pub startsFrom : ℕ → List (List ℕ) → List ℕ
+startsFrom place [] = place ∷ []
+startsFrom place (text ∷ texts) = place ∷ startsFrom (place + length text) texts
 
 -- Where each name starts among all of them, and where the last one ends.
 abbrev pub nameStarts : List ℕ
-nameStarts = 0 ∷ 6 ∷ 12 ∷ 18 ∷ 24 ∷ 29 ∷ 37 ∷ 41 ∷ 44 ∷ 47 ∷ 50 ∷ 54 ∷ 58 ∷ 62 ∷ 66 ∷ 73 ∷ 80 ∷ 82 ∷ 85 ∷ 90 ∷ 96 ∷ 103 ∷ 109 ∷ 112 ∷ 118 ∷ 122 ∷ 129 ∷ 135 ∷ 140 ∷ 147 ∷ []
+nameStarts = startsFrom 0 names

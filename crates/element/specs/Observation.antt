@@ -1,5 +1,5 @@
 -- What one observation must hold. An observation is the list of its values by index, empty where an element is absent.
-use Prim.Native.Nat.{ℕ, _+_, _-_, _*_, _/_, _%_, _^_}
+use Prim.Native.Nat.{ℕ, _+_, _-_, _*_}
 use mathlib.Core.Bool.{Bool, true, false, not, cond, _&&_, _||_}
 use mathlib.Core.List.{List, [], _∷_}
 use lib.Dec.{eqb}
@@ -10,6 +10,7 @@ use Rattle.refusal.specs.declared.Kind.{Kind}
 use Rattle.refusal.specs.declared.Kind.the-variants.{ElementMissing, GroupIncomplete, CentreNotEarth}
 use Rattle.refusal.specs.declared.Fault.{Fault}
 use Rattle.refusal.specs.declared.Fault.the-variants.{Sound, At}
+use Rattle.element.specs.Set.{has}
 
 -- The values of an observation, by index.
 abbrev pub Observation : Type 0
@@ -114,7 +115,7 @@ setOf (value ∷ observation) = setOf observation * 2 + bit (isPresent value)
 
 -- The element of a number is in the set.
 abbrev pub isIn : ℕ → ℕ → Bool
-isIn set number = eqb (set / 2 ^ (number - 1) % 2) 1
+isIn set number = has set (number - 1)
 
 -- The fault of an observation, from the set of its elements.
 unfoldable pub setFault : ℕ → Bool → Bool → Fault

@@ -1,7 +1,8 @@
 -- The elements in their order: the names and the forms of document 01's table. An element's index is its number less one.
-use Prim.Native.Nat.{ℕ, suc, _+_}
+use Prim.Native.Nat.{ℕ, zero, suc, _+_}
+use Prim.Native.String.{String}
 use mathlib.Core.Bool.{true, false, cond}
-use mathlib.Core.List.{List, [], _∷_}
+use mathlib.Core.List.{List, [], _∷_, map}
 use lib.Dec.{ltb}
 use lib.ListN.{getD}
 use Rattle.text.specs.Bytes.{bytes}
@@ -13,73 +14,66 @@ use Rattle.element.specs.declared.form.Form.the-variants.{Unknown, PermI
 abbrev pub elements : ℕ
 elements = 29
 
+-- An element: its name and its form.
+pub record Element : Type 0 where
+  pub name : List ℕ
+  pub form : Form
+
+infix 4 _is_
+-- The element of a quoted name has a form.
+abbrev pub _is_ : String → Form → Element
+name is form = record { name = bytes name; form = form }
+
+-- The elements, by index.
+abbrev pub table : List Element
+table =
+    ("permID" is PermID) ∷
+    ("provID" is ProvID) ∷
+    ("artSat" is ArtSat) ∷
+    ("trkSub" is Alphanumeric 1 8) ∷
+    ("obsID" is Alphanumeric 1 25) ∷
+    ("obsSubID" is Free 25) ∷
+    ("mode" is Mode) ∷
+    ("stn" is Alphanumeric 3 4) ∷
+    ("sys" is System) ∷
+    ("ctr" is Centre) ∷
+    ("pos1" is Decimal 13 true) ∷
+    ("pos2" is Decimal 13 true) ∷
+    ("pos3" is Decimal 13 true) ∷
+    ("prog" is Alphanumeric 1 2) ∷
+    ("obsTime" is Time) ∷
+    ("rmsTime" is Decimal 8 false) ∷
+    ("ra" is RightAscension) ∷
+    ("dec" is Declination) ∷
+    ("rmsRA" is Decimal 7 false) ∷
+    ("rmsDec" is Decimal 7 false) ∷
+    ("rmsCorr" is Correlation) ∷
+    ("astCat" is Alphanumeric 1 8) ∷
+    ("mag" is Decimal 6 true) ∷
+    ("rmsMag" is Decimal 6 false) ∷
+    ("band" is Alphanumeric 1 3) ∷
+    ("photCat" is Alphanumeric 1 8) ∷
+    ("photAp" is Decimal 6 false) ∷
+    ("notes" is Alphanumeric 1 6) ∷
+    ("remarks" is Free 300) ∷
+    []
+
 -- The names, by index.
 abbrev pub names : List (List ℕ)
-names =
-    bytes "permID" ∷
-    bytes "provID" ∷
-    bytes "artSat" ∷
-    bytes "trkSub" ∷
-    bytes "obsID" ∷
-    bytes "obsSubID" ∷
-    bytes "mode" ∷
-    bytes "stn" ∷
-    bytes "sys" ∷
-    bytes "ctr" ∷
-    bytes "pos1" ∷
-    bytes "pos2" ∷
-    bytes "pos3" ∷
-    bytes "prog" ∷
-    bytes "obsTime" ∷
-    bytes "rmsTime" ∷
-    bytes "ra" ∷
-    bytes "dec" ∷
-    bytes "rmsRA" ∷
-    bytes "rmsDec" ∷
-    bytes "rmsCorr" ∷
-    bytes "astCat" ∷
-    bytes "mag" ∷
-    bytes "rmsMag" ∷
-    bytes "band" ∷
-    bytes "photCat" ∷
-    bytes "photAp" ∷
-    bytes "notes" ∷
-    bytes "remarks" ∷
-    []
+names = map (λ element. element .name) table
 
 -- The forms, by index.
 abbrev pub forms : List Form
-forms =
-    PermID ∷
-    ProvID ∷
-    ArtSat ∷
-    Alphanumeric 1 8 ∷
-    Alphanumeric 1 25 ∷
-    Free 25 ∷
-    Mode ∷
-    Alphanumeric 3 4 ∷
-    System ∷
-    Centre ∷
-    Decimal 13 true ∷
-    Decimal 13 true ∷
-    Decimal 13 true ∷
-    Alphanumeric 1 2 ∷
-    Time ∷
-    Decimal 8 false ∷
-    RightAscension ∷
-    Declination ∷
-    Decimal 7 false ∷
-    Decimal 7 false ∷
-    Correlation ∷
-    Alphanumeric 1 8 ∷
-    Decimal 6 true ∷
-    Decimal 6 false ∷
-    Alphanumeric 1 3 ∷
-    Alphanumeric 1 8 ∷
-    Decimal 6 false ∷
-    Alphanumeric 1 6 ∷
-    Free 300 ∷
-    []
+forms = map (λ element. element .form) table
+
+-- So many numbers from one on.
+abbrev pub upward : ℕ → ℕ → List ℕ
+upward from zero = []
+upward from (suc count) = from ∷ upward (suc from) count
+
+-- The elements by index, in the order in which columns are written: element order.
+abbrev pub columnOrder : List ℕ
+columnOrder = upward 0 elements
 
 -- The name of the element of an index, empty past the last element.
 abbrev pub nameOf : ℕ → List ℕ

@@ -8,15 +8,15 @@ use mathlib.Core.Path.{_∙_, _≡_, refl, sym}
 use native.Mathlib.Omega.{arith}
 use Rattle.element.proofs.Names.{index-end, index-no, index-yes}
 use Rattle.element.proofs.name.next_in.Statement.{statement}
-use Rattle.element.specs.Table.{indexIn, names}
+use Rattle.element.specs.Table.{elements, indexIn, names}
 use Rattle.text.specs.Part.{same}
 use Rattle.element.proofs.name.next_in.Tie as tie
 
 abbrev Inv-loop : tie.InvT-loop
-Inv-loop all starts from name i₀ i = (i ≤ 29) × (from + indexIn (drop from names) name ≡ i + indexIn (drop i names) name)
+Inv-loop all starts from name i₀ i = (i ≤ elements) × (from + indexIn (drop from names) name ≡ i + indexIn (drop i names) name)
 
 abbrev μ-loop : tie.MeasureT-loop
-μ-loop all starts from name i₀ i = 29 - i
+μ-loop all starts from name i₀ i = elements - i
 
 loop-holds : tie.Need-loop-holds Inv-loop μ-loop
 loop-holds c = (c .before .before .before .pre .2, refl)
@@ -37,7 +37,7 @@ loop-again : tie.Need-loop-again Inv-loop μ-loop
 loop-again c = (omega arith, omega (arith, index-no names (c .before .before .before .before .before .before .before .args .name .now) (c .before .before .before .loop .i) (c .before .before .loop-test .taken) (sym (c .before .is-name .ensures) ∙ c .if1 .left)))
 
 returns-2 : tie.Need-returns-2 Inv-loop μ-loop
-returns-2 c = let e : c .before .loop .i ≡ 29 = omega arith in omega (arith, index-end (c .before .before .before .before .before .args .name .now) (c .before .loop .i) e)
+returns-2 c = let e : c .before .loop .i ≡ elements = omega arith in omega (arith, index-end (c .before .before .before .before .before .args .name .now) (c .before .loop .i) e)
 
 pub next-in-spec : {M : Type 1} → statement M
 next-in-spec =

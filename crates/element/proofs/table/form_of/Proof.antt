@@ -1,7 +1,7 @@
--- `element::form::form_of` meets its contract.
+-- `element::table::form_of` meets its contract.
 use Rattle.element.proofs.Forms.{form-past}
-use Rattle.element.proofs.form.form_of.Statement.{statement}
-use Rattle.element.proofs.form.form_of.Tie as tie
+use Rattle.element.proofs.table.form_of.Statement.{statement}
+use Rattle.element.proofs.table.form_of.Tie as tie
 
 returns : tie.Need-returns
 returns c = rw (c .match .keys1)
