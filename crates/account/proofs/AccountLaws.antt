@@ -1,5 +1,5 @@
 -- Steps of working out an account, each over plain lists.
-use Prim.Native.Nat.{ℕ, zero, suc, _+_, _-_, _*_, _^_, _/_, _%_, _≤_, _<_}
+use Prim.Native.Nat.{ℕ, suc, _+_, _*_, _^_, _≤_, _<_}
 use mathlib.Core.Path.{_≡_, refl, sym, _∙_}
 use mathlib.Core.List.{List, [], _∷_}
 use native.Mathlib.Nat.{mul-le-mul}
@@ -10,34 +10,35 @@ use lib.Count.{ones}
 use lib.ListN.{length, getD, drop, drop-of-length-le}
 use lib.Seq.{drop-cons}
 use borrow.Author.Tests.{eq-eqb, ne-eqb, le-leb, lt-leb}
-use mir.Syntax.{w32, w64}
+use mir.Syntax.{w64}
 use mir.Val.{Fits}
-use Rattle.cuts.specs.Block.{Row, row, mostRows, rowsOf, union, valueBytes, rowCount, nameLengths, nameBytes, bytesOf}
-use Rattle.cuts.proofs.SumLaws.{names-low}
-use Rattle.account.specs.Account.{valueLimit, closed, accounted, Gathered, bytesIf, bytesIn, leadingLike}
+use Rattle.element.specs.Set.{nameBytes}
+use Rattle.element.proofs.Sets.{names-low}
+use Rattle.cuts.specs.Block.{Row, row, mostRows, rowsOf, union, valueBytes, rowCount, bytesOf}
+use Rattle.account.specs.Account.{valueLimit, closed, accounted, Gathered, leadingLike}
 use Rattle.account.specs.declared.Block.{Block}
 use Rattle.account.specs.declared.Gathering.{Gathering}
 
 -- ---- the parts of a block's bytes
 
 -- Each sum fits, n being the number of columns.
-pub head-fits : (version set names : ℕ) → version ≤ 15 → names ≡ nameBytes nameLengths set → Fits w64 (version + names)
+pub head-fits : (version set names : ℕ) → version ≤ 15 → names ≡ nameBytes set → Fits w64 (version + names)
 head-fits version set names v e = record { fits = omega (arith, names-low set) }
 
-pub columns-fit : (version set names n : ℕ) → version ≤ 15 → names ≡ nameBytes nameLengths set → n ≤ 64 → Fits w64 (version + names + n)
+pub columns-fit : (version set names n : ℕ) → version ≤ 15 → names ≡ nameBytes set → n ≤ 64 → Fits w64 (version + names + n)
 columns-fit version set names n v e h = record { fits = omega (arith, names-low set) }
 
-pub values-fit : (version set names n values : ℕ) → version ≤ 15 → names ≡ nameBytes nameLengths set → n ≤ 64 → values ≤ valueLimit → Fits w64 (version + names + n + values)
+pub values-fit : (version set names n values : ℕ) → version ≤ 15 → names ≡ nameBytes set → n ≤ 64 → values ≤ valueLimit → Fits w64 (version + names + n + values)
 values-fit version set names n values v e h g = record { fits = omega (arith, names-low set) }
 
 pub cells-fit : (rows n : ℕ) → rows ≤ mostRows → n ≤ 64 → Fits w64 (rows * n)
 cells-fit rows n h g = record { fits = omega (arith, mul-le-mul h g) }
 
-pub block-fits : (version set names n values rows : ℕ) → version ≤ 15 → names ≡ nameBytes nameLengths set → n ≤ 64 → values ≤ valueLimit → rows ≤ mostRows → Fits w64 (version + names + n + values + rows * n)
+pub block-fits : (version set names n values rows : ℕ) → version ≤ 15 → names ≡ nameBytes set → n ≤ 64 → values ≤ valueLimit → rows ≤ mostRows → Fits w64 (version + names + n + values + rows * n)
 block-fits version set names n values rows v e h g k = record { fits = omega (arith, names-low set, mul-le-mul k h) }
 
 -- The parts make the block.
-pub block-is : (set names n values rows : ℕ) → names ≡ nameBytes nameLengths set → n ≡ ones set → record { rows = rows; columns = n; names = names; values = values; bytes = 15 + names + n + values + rows * n } ≡ closed set values rows
+pub block-is : (set names n values rows : ℕ) → names ≡ nameBytes set → n ≡ ones set → record { rows = rows; columns = n; names = names; values = values; bytes = 15 + names + n + values + rows * n } ≡ closed set values rows
 unfolding closed bytesOf
 block-is set names n values rows e d = rw (e, d)
 
@@ -134,62 +135,6 @@ module _ (sets sizes : List ℕ) (r : Block) where
         rw (le-leb (length sets) mostRows few, eq-eqb (length sizes) (length sets) same, rows-counted sets sizes same, ← h .0 .set-is, ← h .0 .values-are) e
 
 pub ruleset account-needs = (too-many, unlike-lengths, all-accounted)
-
--- ---- the bytes of a row's values
-
--- Past the end of a list stands nothing.
-past-end : (numbers : List ℕ) (i : ℕ) → length numbers ≤ i → getD numbers i 0 ≡ 0
-past-end [] i h = refl
-past-end (n ∷ numbers) zero h = absurd (omega arith)
-past-end (n ∷ numbers) (suc i) h = past-end numbers i (omega arith)
-
--- A length that is there and given, that is there and not given, that is not there.
-module _ (bit : ℕ) (lengths : List ℕ) (e : ℕ) where
-  pub length-given : (r : ℕ) → bit ≡ 1 → r ≡ getD lengths e 0 → r ≡ bytesIf bit lengths e
-  unfolding bytesIf
-  length-given r h g = g ∙ sym (rw (eq-eqb bit 1 h))
-
-  pub length-not-given : bit ≡ 1 → length lengths ≤ e → 0 ≡ bytesIf bit lengths e
-  unfolding bytesIf
-  length-not-given h g = sym (rw (eq-eqb bit 1 h) (past-end lengths e g))
-
-  pub length-absent : (bit ≡ 1 → ⊥) → 0 ≡ bytesIf bit lengths e
-  unfolding bytesIf
-  length-absent h = sym (rw (ne-eqb bit 1 h))
-
-pub ruleset length-needs = (length-given, length-not-given, length-absent)
-
--- The bytes of the elements before e are added up, and `left` has the elements from e on.
-pub record Adds (set : ℕ) (lengths : List ℕ) (left sum e : ℕ) : Type 0 where
-  pub within : e ≤ 64
-  pub low : sum ≤ 65536 * e
-  pub bytes-left : bytesIn 64 0 set lengths ≡ sum + bytesIn (64 - e) e left lengths
-
-pub adds-none : (set : ℕ) (lengths : List ℕ) → Adds set lengths set 0 0
-adds-none set lengths = record { within = omega arith; low = omega arith; bytes-left = omega arith }
-
-module _ (set : ℕ) (lengths : List ℕ) (left sum e : ℕ) (a : Adds set lengths left sum e) where
-  -- One element more.
-  module _ (bytes : ℕ) (h : e < 64) (b : (bytes ≡ bytesIf (left % 2) lengths e) × (bytes < 65536)) where
-    bytes-step : bytesIn (64 - e) e left lengths ≡ bytesIf (left % 2) lengths e + bytesIn (64 - (e + 1)) (e + 1) (left / 2) lengths
-    unfolding bytesIn
-    bytes-step = let k : 64 - e ≡ suc (64 - (e + 1)) = omega arith in rw (k, add-one)
-
-    pub adds-fit : Fits w32 (sum + bytes)
-    adds-fit = record { fits = omega (arith, a .low) }
-
-    pub adds-more : Adds set lengths (left / 2) (sum + bytes) (e + 1)
-    adds-more = record { within = omega arith; low = omega (arith, a .low); bytes-left = omega (arith, a .bytes-left, bytes-step) }
-
-  -- The end of the elements.
-  bytes-end : 64 ≤ e → bytesIn (64 - e) e left lengths ≡ 0
-  unfolding bytesIn
-  bytes-end h = let k : 64 - e ≡ 0 = omega arith in rw k
-
-  pub adds-all : 64 ≤ e → sum ≡ bytesIn 64 0 set lengths
-  adds-all h = omega (arith, a .bytes-left, bytes-end h)
-
-pub ruleset add-needs = (adds-none, adds-fit, adds-more, adds-all)
 
 -- ---- rows that have one set
 

@@ -1,12 +1,13 @@
 -- The account of a block's length, part by part.
-use Prim.Native.Nat.{ℕ, zero, suc, _+_, _*_, _^_, _/_, _%_}
+use Prim.Native.Nat.{ℕ, suc, _*_, _^_}
 use mathlib.Core.Path.{_≡_}
 use mathlib.Core.Bool.{cond, _&&_}
 use mathlib.Core.List.{List, [], _∷_}
 use lib.Count.{ones}
 use lib.Dec.{eqb, leb}
 use lib.ListN.{length, getD}
-use Rattle.cuts.specs.Block.{Row, mostRows, rowsOf, union, valueBytes, rowCount, nameLengths, nameBytes, bytesOf}
+use Rattle.element.specs.Set.{nameBytes}
+use Rattle.cuts.specs.Block.{Row, mostRows, rowsOf, union, valueBytes, rowCount, bytesOf}
 use Rattle.account.specs.declared.Block.{Block}
 use Rattle.account.specs.declared.Gathering.{Gathering}
 
@@ -21,7 +22,7 @@ closed columns values rows =
     record {
       rows = rows;
       columns = ones columns;
-      names = nameBytes nameLengths columns;
+      names = nameBytes columns;
       values = values;
       bytes = bytesOf columns values rows;
     }
@@ -39,15 +40,6 @@ accounted sets sizes =
 pub record Gathered (rows : List Row) (r : Gathering) : Type 0 where
   pub set-is : r .set ≡ union 0 rows
   pub values-are : r .values ≡ valueBytes rows
-
--- The length of an element's value where the bit is set, else 0.
-unfoldable pub bytesIf : ℕ → List ℕ → ℕ → ℕ
-bytesIf bit lengths e = cond (eqb bit 1) (getD lengths e 0) 0
-
--- The bytes of the values of so many elements from one on; the lowest bit of the set stands for that one.
-unfoldable pub bytesIn : ℕ → ℕ → ℕ → List ℕ → ℕ
-bytesIn zero e set lengths = 0
-bytesIn (suc n) e set lengths = bytesIf (set % 2) lengths e + bytesIn n (suc e) (set / 2) lengths
 
 -- How many numbers from the first on equal a number.
 unfoldable pub leadingLike : ℕ → List ℕ → ℕ

@@ -1,9 +1,10 @@
 // The account of a block's length: 15, plus name lengths, plus one a column, plus values, plus rows times columns.
+use element::set;
 ghost use mathlib.Core.Path.{_≡_};
 ghost use Prim.Native.Nat.{_^_, _≤_, _<_};
 ghost use lib.ListN.{length};
 ghost use Rattle.cuts.specs.Block.{mostRows, rowsOf};
-ghost use Rattle.account.specs.Account.{valueLimit, closed, accounted, Gathered, bytesIf, bytesIn, alike};
+ghost use Rattle.account.specs.Account.{valueLimit, closed, accounted, Gathered, alike};
 
 // The most rows of an account.
 const MOST_ROWS: usize = 1024;
@@ -43,8 +44,8 @@ fn close(set: u64, values: u64, rows: u64) -> Block
     requires { ⌜ (values ≤ valueLimit) × (rows ≤ mostRows) ⌝ }
     ensures { λ r. ⌜ r ≡ closed set values rows ⌝ }
 {
-    let names = cuts::block::names_of(set);
-    let columns = cuts::block::column_count(set);
+    let names = set::name_bytes(set);
+    let columns = set::count(set);
     Block {
         rows: rows,
         columns: columns,
@@ -78,40 +79,6 @@ fn wide_size(size: u32) -> u64
     ensures { λ r. ⌜ (r ≡ size) × (r < 2 ^ 32) ⌝ }
 {
     size as u64
-}
-
-// The bytes of the values of a row with this set of elements, from the lengths of its values; a length that is not given counts 0.
-pub fn row_bytes(set: u64, lengths: &[u16]) -> u32
-    ensures { λ r. ⌜ r ≡ bytesIn 64 0 set (now (lengths .entry)) ⌝ }
-{
-    let mut left = set;
-    let mut sum: u32 = 0;
-    let mut e: usize = 0;
-    while e < 64 {
-        sum += bytes_if(left % 2, lengths, e);
-        left = left / 2;
-        e += 1;
-    }
-    sum
-}
-
-// A length where the element is in the set and its length is given, else 0.
-fn bytes_if(bit: u64, lengths: &[u16], e: usize) -> u32
-    ensures { λ r. ⌜ (r ≡ bytesIf bit (now (lengths .entry)) e) × (r < 65536) ⌝ }
-{
-    if bit == 1 {
-        if e < lengths.len() {
-            return wide_length(lengths[e]);
-        }
-    }
-    0
-}
-
-// A length as a wider number.
-fn wide_length(length: u16) -> u32
-    ensures { λ r. ⌜ (r ≡ length) × (r < 65536) ⌝ }
-{
-    length as u32
 }
 
 // How many rows from the first on have the set of the first.

@@ -1,16 +1,14 @@
--- Sums over rows, runs and name lengths, one step at a time.
+-- Sums over numbers, rows and runs, one step at a time.
 use mathlib.Core.Path.{_≡_, refl, ap}
 use mathlib.Core.List.{List, [], _∷_, _++_}
-use Prim.Native.Nat.{ℕ, _≤_, _<_, zero, suc, _+_, _/_, _%_, _-_}
+use Prim.Native.Nat.{ℕ, _≤_, _<_, zero, suc, _+_, _-_}
 use native.Mathlib.Omega.{arith}
-use lib.ListN.{length, take, drop, getD, length-drop, drop-of-length-le, set, take-append-drop, List·getD-map}
+use lib.ListN.{length, take, drop, getD, length-drop, set, take-append-drop}
 use lib.Bits.{bitOr}
-use native.Mathlib.Numerals.{add-one}
-use lib.Seq.{drop-cons, take-suc, take-all}
+use lib.Seq.{take-suc, take-all}
 use native.Mathlib.Nat.{le-of-eq}
-use Rattle.element.specs.Table.{elements, names, nameOf}
 use Rattle.cuts.specs.Runs.{runsOf}
-use Rattle.cuts.specs.Block.{Row, row, total, union, valueBytes, rowCount, nameLengths, lengthIf, nameBytes, bytesOf, blockBytes}
+use Rattle.cuts.specs.Block.{Row, row, total, union, valueBytes, rowCount, bytesOf, blockBytes}
 
 -- ---- numbers
 
@@ -56,45 +54,6 @@ one-less-le i n h = omega arith
 
 pub one-less-lt : (i n : ℕ) → 0 < i → i ≤ n → i - 1 < n
 one-less-lt i n g h = omega arith
-
--- ---- names
-
--- The name of one element and those after it.
-pub names-step : (ls : List ℕ) (e m : ℕ) → e < length ls
-    → nameBytes (drop e ls) m ≡ lengthIf (m % 2) (getD ls e 0) + nameBytes (drop (e + 1) ls) (m / 2)
-unfolding nameBytes
-names-step ls e m h = rw (add-one, drop-cons ls e 0)
-
-pub names-end : (ls : List ℕ) (e m : ℕ) → length ls ≤ e → nameBytes (drop e ls) m ≡ 0
-unfolding nameBytes
-names-end ls e m h = rw (drop-of-length-le ls)
-
--- The table has a length for each element.
-pub name-lengths-length : length nameLengths ≡ elements
-unfolding nameLengths
-name-lengths-length = refl
-
--- The length at each place is that of the element's name.
-pub name-length : (e : ℕ) → getD nameLengths e 0 ≡ length (nameOf e)
-unfolding nameLengths
-name-length e = List·getD-map length names e []
-
-length-if-le : (bit l : ℕ) → lengthIf bit l ≤ l
-length-if-le zero l = omega arith
-length-if-le (suc bit) l = omega arith
-
-names-le : (ls : List ℕ) (m : ℕ) → nameBytes ls m ≤ total ls
-unfolding nameBytes total
-names-le [] m = omega arith
-names-le (l ∷ ls) m = omega (arith, length-if-le (m % 2) l, names-le ls (m / 2))
-
-name-lengths-total : total nameLengths ≤ 1024
-unfolding nameLengths total
-name-lengths-total = omega arith
-
--- The names of any set are short.
-pub names-low : (set : ℕ) → nameBytes nameLengths set ≤ 1024
-names-low set = omega (arith, names-le nameLengths set, name-lengths-total)
 
 -- ---- runs
 

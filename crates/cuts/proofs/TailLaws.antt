@@ -16,7 +16,7 @@ use borrow.Author.Tests.{leb-true, leb-false, ltb-true, ltb-false, lt-ltb, le-lt
 use mir.Syntax.{w64}
 use mir.Val.{Fits}
 use Rattle.cuts.specs.Runs.{runsOf}
-use Rattle.cuts.specs.Block.{Row, row, union, valueBytes, rowCount, nameBytes, bytesOf, blockBytes}
+use Rattle.cuts.specs.Block.{Row, row, union, valueBytes, rowCount, bytesOf, blockBytes}
 use Rattle.cuts.specs.Look.{blockLimit, headOf, endCost, LeastIn, Looked, IsFull, LookedNear, LookedFar, Small, Ends, Passed, TailIs, tailWith, tailIf, tailOf, foundIf, foundOf, FoundIs}
 use Rattle.cuts.specs.declared.block.Head.{Head}
 use Rattle.cuts.specs.declared.ends.Look.{Look}

@@ -9,8 +9,9 @@ use native.Mathlib.Decide.{decLe}
 use lib.Bits.{bitOr}
 use lib.Count.{ones}
 use native.Mathlib.Nat.{mul-le-mul, le-refl}
-use Rattle.cuts.specs.Block.{Row, union, valueBytes, rowCount, nameLengths, bytesOf, blockBytes, allMore}
-use Rattle.cuts.proofs.UnionLaws.{or-swap, or-twice, ones-grow, names-grow}
+use Rattle.element.specs.Set.{nameLengths}
+use Rattle.cuts.specs.Block.{Row, union, valueBytes, rowCount, bytesOf, blockBytes, allMore}
+use Rattle.cuts.proofs.UnionLaws.{or-swap, or-twice, ones-grow, lengths-grow}
 use Rattle.cuts.proofs.LikeRows.{Together, costOrZero, Trade}
 use Rattle.cuts.proofs.SumLaws.{union-append, values-append, count-append}
 
@@ -27,7 +28,7 @@ union-or a m (x ∷ b) = ap (λ (n : ℕ). union n b) (or-swap a m (x .set)) ∙
 -- More columns never make a block cheaper.
 bytes-grow : (a m v k : ℕ) → bytesOf a v k ≤ bytesOf (bitOr a m) v k
 unfolding bytesOf
-bytes-grow a m v k = omega (arith, names-grow nameLengths a m, ones-grow a m, mul-le-mul (le-refl k) (ones-grow a m))
+bytes-grow a m v k = omega (arith, lengths-grow nameLengths a m, ones-grow a m, mul-le-mul (le-refl k) (ones-grow a m))
 
 some-grow : (b : List Row) (m : ℕ) → costOrZero blockBytes b ≤ bytesOf (bitOr (union 0 b) m) (valueBytes b) (rowCount b)
 unfolding blockBytes

@@ -1,5 +1,5 @@
 -- Unions of sets held in numbers: their order does not matter, a set put in twice is put in once, and a set that grows has no fewer
--- elements and no shorter names.
+-- elements and no fewer bytes.
 use mathlib.Core.Path.{_≡_, refl, sym, ap, ap₂, _∙_}
 use mathlib.Core.List.{List, [], _∷_}
 use Prim.Native.Nat.{ℕ, _≤_, _<_, zero, suc, _+_, _*_, _/_, _%_, max}
@@ -8,7 +8,7 @@ use lib.Bits.{bitOr, or-comm, or-step, or-self}
 use lib.Count.{ones, onesIn, ones-step}
 use native.Mathlib.Nat.{le-max-left}
 use lib.Arith.{bin-ind, digits-div, digits-mod}
-use Rattle.cuts.specs.Block.{lengthIf, nameBytes}
+use Rattle.element.specs.Set.{lengthIf, bytesIn}
 
 -- The lowest bit of a union, and the union without it.
 max-lt : (a b : ℕ) → max (a % 2) (b % 2) < 2
@@ -57,9 +57,9 @@ length-le zero y l h = omega arith
 length-le (suc x) zero l h = absurd (omega arith)
 length-le (suc x) (suc y) l h = omega arith
 
--- A set that grows has no shorter names.
-pub names-grow : (ls : List ℕ) (a b : ℕ) → nameBytes ls a ≤ nameBytes ls (bitOr a b)
-unfolding nameBytes
-names-grow [] a b = omega arith
-names-grow (l ∷ ls) a b =
-    rw (or-half a b, or-odd a b) (omega (arith, length-le (a % 2) (max (a % 2) (b % 2)) l (le-max-left (a % 2) (b % 2)), names-grow ls (a / 2) (b / 2)))
+-- A set that grows has no fewer bytes, whatever each element has.
+pub lengths-grow : (ls : List ℕ) (a b : ℕ) → bytesIn ls a ≤ bytesIn ls (bitOr a b)
+unfolding bytesIn
+lengths-grow [] a b = omega arith
+lengths-grow (l ∷ ls) a b =
+    rw (or-half a b, or-odd a b) (omega (arith, length-le (a % 2) (max (a % 2) (b % 2)) l (le-max-left (a % 2) (b % 2)), lengths-grow ls (a / 2) (b / 2)))

@@ -1,11 +1,10 @@
 -- What a block of rows costs in bytes: "15, plus name lengths, plus one a column, plus values, plus rows times columns".
--- A set of elements is a number whose bit e stands for element number e + 1.
-use mathlib.Core.List.{List, [], _∷_, map}
-use Prim.Native.Nat.{ℕ, zero, suc, _+_, _*_, _/_, _%_}
+use mathlib.Core.List.{List, [], _∷_}
+use Prim.Native.Nat.{ℕ, _+_, _*_}
 use lib.Bits.{bitOr}
 use lib.Count.{ones}
 use lib.ListN.{length}
-use Rattle.element.specs.Table.{names}
+use Rattle.element.specs.Set.{nameBytes}
 
 -- The most rows that the search can cut. This is a bound of its own, not the reader's limit on data lines.
 abbrev pub mostRows : ℕ
@@ -52,23 +51,9 @@ unfoldable pub rowCount : List Row → ℕ
 rowCount [] = 0
 rowCount (r ∷ rows) = r .count + rowCount rows
 
--- The lengths of the elements' names, in element order.
-unfoldable pub nameLengths : List ℕ
-nameLengths = map length names
-
--- A length where the bit is set, else 0.
-abbrev pub lengthIf : ℕ → ℕ → ℕ
-lengthIf zero length = 0
-lengthIf (suc bit) length = length
-
--- The bytes of the names of a set's elements, from the lengths of the names from the set's lowest bit on.
-unfoldable pub nameBytes : List ℕ → ℕ → ℕ
-nameBytes [] set = 0
-nameBytes (length ∷ lengths) set = lengthIf (set % 2) length + nameBytes lengths (set / 2)
-
 -- The bytes of a block with these columns, these bytes of values and so many rows. "The number of columns is the count of ones in that set."
 unfoldable pub bytesOf : ℕ → ℕ → ℕ → ℕ
-bytesOf columns values rows = 15 + nameBytes nameLengths columns + ones columns + values + rows * ones columns
+bytesOf columns values rows = 15 + nameBytes columns + ones columns + values + rows * ones columns
 
 -- The bytes of a block of these rows.
 unfoldable pub blockBytes : List Row → ℕ

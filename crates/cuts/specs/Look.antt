@@ -7,7 +7,8 @@ use Prim.Native.Nat.{ℕ, suc, _+_, _-_, _*_, _^_, _≤_, _<_}
 use lib.Count.{ones}
 use lib.Dec.{leb, ltb}
 use lib.ListN.{length, take, drop, getD}
-use Rattle.cuts.specs.Block.{mostRows, mostBytes, Row, union, valueBytes, rowCount, nameLengths, nameBytes, blockBytes}
+use Rattle.element.specs.Set.{nameBytes}
+use Rattle.cuts.specs.Block.{mostRows, mostBytes, Row, union, valueBytes, rowCount, blockBytes}
 use Rattle.cuts.specs.Cheapest.{bestCosts, firstBlocks}
 use Rattle.cuts.specs.Runs.{runsOf}
 use Rattle.cuts.specs.declared.block.Head.{Head}
@@ -21,7 +22,7 @@ blockLimit = 2 ^ 20
 
 -- The head of a block with these columns.
 abbrev pub headOf : ℕ → Head
-headOf columns = record { columns = columns; count = ones columns; bytes = 15 + nameBytes nameLengths columns + ones columns }
+headOf columns = record { columns = columns; count = ones columns; bytes = 15 + nameBytes columns + ones columns }
 
 -- The cost with end k, where what is left then costs what stands at k in `after`.
 abbrev pub endCost : List Row → List ℕ → ℕ → ℕ

@@ -4,11 +4,11 @@ use Rattle.account.proofs.AccountLaws.{block-needs}
 use Rattle.account.proofs.close.Statement.{statement}
 use Rattle.account.proofs.close.Tie as tie
 
-names-of-requires : tie.Need-names-of-requires
-names-of-requires c κs = search (needs, block-needs)
+name-bytes-requires : tie.Need-name-bytes-requires
+name-bytes-requires c κs = search (needs, block-needs)
 
-column-count-requires : tie.Need-column-count-requires
-column-count-requires c κs = search (needs, block-needs)
+count-requires : tie.Need-count-requires
+count-requires c κs = search (needs, block-needs)
 
 add-t6 : tie.Need-add-t6
 add-t6 c = search (needs, block-needs)
@@ -31,4 +31,4 @@ returns c = search (needs, block-needs)
 pub close-spec : {M : Type 1} → statement M
 close-spec =
     tie.close
-    (tie.spec names-of-requires column-count-requires add-t6 add-t7 add-t8 mul-t9 add-t10 returns)
+    (tie.spec name-bytes-requires count-requires add-t6 add-t7 add-t8 mul-t9 add-t10 returns)

@@ -3,15 +3,12 @@ use borrow.Author.Needs.{needs}
 use Rattle.cuts.proofs.BlockLaws.{head-needs}
 use Rattle.cuts.proofs.block.head_of.Statement.{statement}
 use Rattle.cuts.proofs.block.head_of.Tie as tie
-use Rattle.cuts.proofs.block.head_of.Reads as reads
-use Rattle.cuts.proofs.block.column_count.Reads as column-count-reads
-use Rattle.cuts.proofs.block.names_of.Reads as names-of-reads
 
-column-count-requires : tie.Need-column-count-requires
-column-count-requires c κs = search (needs, head-needs)
+count-requires : tie.Need-count-requires
+count-requires c κs = search (needs, head-needs)
 
-names-of-requires : tie.Need-names-of-requires
-names-of-requires c κs = search (needs, head-needs)
+name-bytes-requires : tie.Need-name-bytes-requires
+name-bytes-requires c κs = search (needs, head-needs)
 
 add-t4 : tie.Need-add-t4
 add-t4 c = search (needs, head-needs)
@@ -26,8 +23,8 @@ pub head-of-spec : {M : Type 1} → statement M
 head-of-spec =
     tie.close
     (tie.spec
-    column-count-requires
-    names-of-requires
+    count-requires
+    name-bytes-requires
     add-t4
     add-t5
     returns)
