@@ -12,16 +12,16 @@ use lib.Count.{ones, ones-step}
 use lib.Dec.{eqb}
 use lib.ListN.{length, take, drop, getD, length-append, length-map}
 use Rattle.text.proofs.Bools.{bools}
-use Rattle.element.specs.Table.{elements, nameOf}
+use Rattle.element.specs.Table.{elements, nameOf, upward, columnOrder}
 use Rattle.element.specs.Observation.{Observation, isPresent, bit, setOf}
+use Rattle.element.specs.Set.{has, lengthIf, bytesIn, nameLengths, nameBytes}
 use Rattle.cuts.specs.Cuts.{cost}
-use Rattle.cuts.specs.Block.{union, valueBytes, rowCount, nameLengths, lengthIf, nameBytes, bytesOf, blockBytes}
+use Rattle.cuts.specs.Block.{union, valueBytes, rowCount, bytesOf, blockBytes}
 use Rattle.cuts.proofs.CutLaws.{cost-map}
-use Rattle.cuts.proofs.SumLaws.{name-lengths-length, name-length}
-use Rattle.layout.specs.Written.{columnOrder, isAnywhere, passing, columnsOf, barred, lineOf, namesAt, valuesAt, dataLines, blockText, written, Valid}
+use Rattle.layout.specs.Written.{isAnywhere, passing, columnsOf, barred, lineOf, namesAt, valuesAt, dataLines, blockText, written, Valid}
 use Rattle.layout.specs.Cost.{sizeOf, asRow}
-use Rattle.element.proofs.Sets.{has-set, set-below}
-use Rattle.layout.proofs.ColumnLaws.{weigh, passing-weighs, same-weight, one-weighs, upward, upward-weighs, order-weighs, columns-present}
+use Rattle.element.proofs.Sets.{has-set, set-below, name-lengths-length, name-length}
+use Rattle.layout.proofs.ColumnLaws.{weigh, passing-weighs, same-weight, one-weighs, upward-weighs, order-weighs, columns-present}
 use Rattle.layout.proofs.FieldLaws.{line-length, map-size}
 use Rattle.layout.proofs.Accepted.{Right, AllRight, right-take, right-drop}
 use Rattle.layout.proofs.BlockReads.{Under, AllUnder, absent-is, block-under, first-column}
@@ -69,7 +69,7 @@ pub set-bit : (rows : List Observation) (e : ℕ) → setFor rows / 2 ^ e % 2 �
 set-bit rows e = omega (arith, union-bits 0 rows e, zero-div (2 ^ e))
 
 -- So the columns are those of the column order whose bits are set.
-pub columns-set : (rows : List Observation) → columnsOf rows ≡ passing (λ e. eqb (setFor rows / 2 ^ e % 2) 1) columnOrder
+pub columns-set : (rows : List Observation) → columnsOf rows ≡ passing (has (setFor rows)) columnOrder
 unfolding columnsOf
 columns-set rows = ap (λ (test : ℕ → Bool). passing test columnOrder) (fun-ext (λ e. rw (set-bit rows e) (tested (isAnywhere rows e))))
   where
@@ -98,15 +98,15 @@ ones-bits (suc n) m h =
       same-weight (λ e. m / 2 ^ suc e % 2) (λ e. m / 2 / 2 ^ e % 2) (upward 0 n) (λ e. ap (λ (x : ℕ). x % 2) (half-bit m e)),
     )
 
--- The bytes of the names.
-names-bits : (ls : List ℕ) (m : ℕ) → nameBytes ls m ≡ weigh (λ e. lengthIf (m / 2 ^ e % 2) (getD ls e 0)) (upward 0 (length ls))
-unfolding weigh nameBytes
-names-bits [] m = refl
-names-bits (l ∷ ls) m =
+-- Lengths by bit.
+lengths-bits : (ls : List ℕ) (m : ℕ) → bytesIn ls m ≡ weigh (λ e. lengthIf (m / 2 ^ e % 2) (getD ls e 0)) (upward 0 (length ls))
+unfolding weigh bytesIn
+lengths-bits [] m = refl
+lengths-bits (l ∷ ls) m =
     omega (
       arith,
       ap (λ (x : ℕ). lengthIf (x % 2) l) (div-one m),
-      names-bits ls (m / 2),
+      lengths-bits ls (m / 2),
       upward-weighs (λ e. lengthIf (m / 2 ^ e % 2) (getD (l ∷ ls) e 0)) 0 (length ls),
       same-weight (λ e. lengthIf (m / 2 ^ suc e % 2) (getD ls e 0)) (λ e. lengthIf (m / 2 / 2 ^ e % 2) (getD ls e 0)) (upward 0 (length ls))
           (λ e. ap (λ (x : ℕ). lengthIf (x % 2) (getD ls e 0)) (half-bit m e)),
@@ -126,11 +126,11 @@ columns-ones rows r =
     ∙ sym (ones-bits elements (setFor rows) (union-below 0 rows (omega arith) r))))
 
 -- The name lengths of the columns are those of the set.
-pub columns-names : (rows : List Observation) → weigh (λ e. length (nameOf e)) (columnsOf rows) ≡ nameBytes nameLengths (setFor rows)
+pub columns-names : (rows : List Observation) → weigh (λ e. length (nameOf e)) (columnsOf rows) ≡ nameBytes (setFor rows)
 columns-names rows =
     columns-weigh rows (λ e. length (nameOf e))
     ∙ (same-weight (λ e. cond (isAnywhere rows e) (length (nameOf e)) 0) (λ e. lengthIf (setFor rows / 2 ^ e % 2) (getD nameLengths e 0)) (upward 0 elements) at
-    ∙ (ap (λ (n : ℕ). weigh (λ e. lengthIf (setFor rows / 2 ^ e % 2) (getD nameLengths e 0)) (upward 0 n)) (sym name-lengths-length) ∙ sym (names-bits nameLengths (setFor rows))))
+    ∙ (ap (λ (n : ℕ). weigh (λ e. lengthIf (setFor rows / 2 ^ e % 2) (getD nameLengths e 0)) (upward 0 n)) (sym name-lengths-length) ∙ sym (lengths-bits nameLengths (setFor rows))))
   where
     named : (b : Bool) (l : ℕ) → cond b l 0 ≡ lengthIf (bit b) l
     named true l = refl

@@ -13,13 +13,13 @@ use Rattle.text.specs.Lines.{bar, line, lines, trim}
 use Rattle.text.proofs.Bools.{bools}
 use Rattle.text.proofs.Parts.{same-is}
 use Rattle.refusal.specs.declared.Fault.the-variants.{Sound}
-use Rattle.element.specs.Table.{elements, nameOf}
+use Rattle.element.specs.Table.{elements, nameOf, columnOrder}
 use Rattle.element.specs.Observation.{Observation, isPresent, holdsAny}
 use Rattle.report.specs.declared.state.Need.{Need}
 use Rattle.report.specs.declared.state.Need.the-variants as Need
 use Rattle.report.specs.Report.{textLimit, rowLimit, versionLine, isHash, next, row, member, columnsFrom, fieldFault, fill, rowOf, dataLine, other, step, accepted, readFrom, begin, read}
 use Rattle.report.proofs.Join.{read-within}
-use Rattle.layout.specs.Written.{columnOrder, isAnywhere, passing, columnsOf, barred, lineOf, namesAt, valuesAt, dataLines, blockText}
+use Rattle.layout.specs.Written.{isAnywhere, passing, columnsOf, barred, lineOf, namesAt, valuesAt, dataLines, blockText}
 use Rattle.text.proofs.Table.{below}
 use Rattle.text.proofs.Bools.{T-true}
 use Rattle.element.proofs.Observations.{identified}

@@ -9,10 +9,10 @@ use lib.Dec.{eqb, ltb}
 use lib.ListN.{length}
 use borrow.Author.Tests.{eq-eqb, eqb-true, ltb-true}
 use Rattle.text.proofs.Bools.{bools}
-use Rattle.element.specs.Table.{elements}
+use Rattle.element.specs.Table.{elements, upward, columnOrder}
 use Rattle.element.specs.Observation.{Observation}
 use Rattle.report.specs.Report.{member}
-use Rattle.layout.specs.Written.{columnOrder, isAnywhere, passing, columnsOf}
+use Rattle.layout.specs.Written.{isAnywhere, passing, columnsOf}
 use Rattle.text.proofs.Table.{below}
 use Rattle.text.proofs.Bools.{T-true}
 
@@ -164,11 +164,6 @@ pub one-weighs : (cs : List ℕ) → weigh (λ c. 1) cs ≡ length cs
 unfolding weigh
 one-weighs [] = refl
 one-weighs (c ∷ cs) = omega (arith, one-weighs cs)
-
--- The n numbers from one on.
-abbrev pub upward : ℕ → ℕ → List ℕ
-upward i zero = []
-upward i (suc n) = i ∷ upward (suc i) n
 
 -- From one later on, each by the next weight.
 pub upward-weighs : (w : ℕ → ℕ) (i n : ℕ) → weigh w (upward (suc i) n) ≡ weigh (λ e. w (suc e)) (upward i n)

@@ -4,15 +4,10 @@ use mathlib.Core.Bool.{Bool, false, cond, _||_}
 use mathlib.Core.List.{List, [], _∷_, _++_, map}
 use lib.ListN.{length, getD, take, drop}
 use Rattle.text.specs.Lines.{lineFeed, bar}
-use Rattle.element.specs.Table.{nameOf}
+use Rattle.element.specs.Table.{nameOf, columnOrder}
 use Rattle.element.specs.Observation.{Observation, isPresent}
 use Rattle.report.specs.Report.{versionLine}
 use Rattle.cuts.specs.Cuts.{Cuts}
-
--- The elements by index, in the order in which columns are written: element order.
-abbrev pub columnOrder : List ℕ
-columnOrder =
-    0 ∷ 1 ∷ 2 ∷ 3 ∷ 4 ∷ 5 ∷ 6 ∷ 7 ∷ 8 ∷ 9 ∷ 10 ∷ 11 ∷ 12 ∷ 13 ∷ 14 ∷ 15 ∷ 16 ∷ 17 ∷ 18 ∷ 19 ∷ 20 ∷ 21 ∷ 22 ∷ 23 ∷ 24 ∷ 25 ∷ 26 ∷ 27 ∷ 28 ∷ []
 
 -- The element of an index is present in some row.
 unfoldable pub isAnywhere : List Observation → ℕ → Bool

@@ -1,5 +1,5 @@
 -- What the reader's private functions promise each other. A reviewer of the report's rules can skip this file.
-use Prim.Native.Nat.{ℕ, suc, _+_, _-_, _*_, _/_, _%_, _^_, _≤_, _<_}
+use Prim.Native.Nat.{ℕ, suc, _+_, _-_, _*_, _^_, _≤_, _<_}
 use mathlib.Core.Path.{_≡_}
 use mathlib.Core.List.{List, []}
 use mathlib.Core.Bool.{Bool, cond, _&&_}
@@ -13,6 +13,7 @@ use Rattle.refusal.specs.declared.Kind.{Kind}
 use Rattle.refusal.specs.declared.Kind.the-variants.{BlockUnfinished}
 use Rattle.refusal.specs.declared.Fault.{Fault}
 use Rattle.refusal.specs.declared.Fault.the-variants.{Sound, At}
+use Rattle.element.specs.Set.{has}
 use Rattle.element.specs.Table.{elements}
 use Rattle.element.specs.Observation.{Observation, isPresent, setOf, isWgs84, isEarth, setFault}
 use Rattle.report.specs.Report.{State, Step, next, row, bad, columnsFrom, fieldFault, rowOf, dataLine, other, step, read, rowLimit}
@@ -222,7 +223,7 @@ checkedAt Need.Nothing n k = Checked.Accepted k
 -- What the first row of an index shows of an element.
 unfoldable pub slotShown : List ℕ → List ℕ → List ℕ → ℕ → Showing
 slotShown sets starts lengths e =
-    cond (eqb (getD sets 0 0 / 2 ^ e % 2) 1) (Showing.At (getD starts e 0) (getD lengths e 0)) Showing.Absent
+    cond (has (getD sets 0 0) e) (Showing.At (getD starts e 0) (getD lengths e 0)) Showing.Absent
 
 -- Where a value lies, and that it lies there.
 pub record LocatedIs (t : List ℕ) (n e : ℕ) (r : Showing) : Type 0 where

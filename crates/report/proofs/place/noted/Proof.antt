@@ -1,14 +1,14 @@
 use Rattle.report.specs.Inner.{slotShown}
-use borrow.Author.Tests.{eq-eqb, ne-eqb}
+use mathlib.Core.Path.{_∙_, sym}
 use borrow.Author.Needs.{needs}
 use Rattle.report.proofs.place.noted.Statement.{statement}
 use Rattle.report.proofs.place.noted.Tie as tie
 
-shared-slice-read-if1 : tie.Need-shared-slice-read-if1
-shared-slice-read-if1 c = search needs
+shared-slice-read-has : tie.Need-shared-slice-read-has
+shared-slice-read-has c = search needs
 
-shr-if1 : tie.Need-shr-if1
-shr-if1 c = search needs
+has-requires : tie.Need-has-requires
+has-requires c κs = search needs
 
 mul-wide : tie.Need-mul-wide
 mul-wide c = search needs
@@ -30,18 +30,18 @@ wide-requires-2 c κs = search needs
 
 returns : tie.Need-returns
 unfolding slotShown
-returns c = rw (eq-eqb _ _ (c .before .before .before .before .if1 .taken), c .before .before .wide .ensures, c .wide2 .ensures)
+returns c = rw (sym (c .before .before .before .before .before .has .ensures) ∙ c .before .before .before .before .if1 .taken, c .before .before .wide .ensures, c .wide2 .ensures)
 
 returns-2 : tie.Need-returns-2
 unfolding slotShown
-returns-2 c = rw (ne-eqb _ _ (c .if1 .left))
+returns-2 c = rw (sym (c .before .has .ensures) ∙ c .if1 .left)
 
 pub noted-spec : {M : Type 1} → statement M
 noted-spec =
     tie.close
     (tie.spec
-    shared-slice-read-if1
-    shr-if1
+    shared-slice-read-has
+    has-requires
     mul-wide
     shared-slice-read-wide
     wide-requires
