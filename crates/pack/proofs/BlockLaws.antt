@@ -9,6 +9,7 @@ use lib.Dec.{eqb}
 use lib.ListN.{length, take, drop, getD, length-take, length-drop, length-map, length-append, drop-of-length-le, List·getD-map}
 use lib.Seq.{drop-cons, drop-drop, getD-take, getD-drop, ext-getD}
 use borrow.Author.Tests.{eq-eqb}
+use Rattle.element.specs.Set.{joined}
 use Rattle.element.specs.Observation.{Observation, setOf}
 use Rattle.report.specs.Report.{Outcome, accepted, refused, read, versionLine, member}
 use Rattle.report.specs.Index.{Index}
@@ -16,7 +17,7 @@ use Rattle.layout.specs.Written.{lineOf, namesAt, dataLines, columnsOf, blockTe
 use Rattle.layout.proofs.Accepted.{AllRight, right-take, right-drop, accepted-right}
 use Rattle.layout.proofs.BlockReads.{first-column}
 use Rattle.layout.proofs.ColumnLaws.{columns-below, or-second}
-use Rattle.pack.specs.Inner.{observationsOf, observed, Indexed, Wrote, Columns, rowLine, rowsFrom, joined, columnsIn, Listed, RowAsks, RowsAsk, BlockAsks, BlocksAsk}
+use Rattle.pack.specs.Inner.{observationsOf, observed, Indexed, Wrote, Columns, rowLine, rowsFrom, columnsIn, Listed, RowAsks, RowsAsk, BlockAsks, BlocksAsk}
 use Rattle.pack.proofs.WritingLaws.{Writing, write-begin, write-next, write-end, write-fits, write-room, write-first, last-fits}
 use Rattle.pack.proofs.ColumnLaws.{columns-joined}
 

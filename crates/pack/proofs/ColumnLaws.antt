@@ -1,34 +1,25 @@
 -- Laws of the columns of a block: the set of its rows' elements, and the list that is made of it.
-use Prim.Native.Nat.{ℕ, _+_, _/_, _%_, _^_, _≤_, _<_}
+use Prim.Native.Nat.{ℕ, _+_, _≤_, _<_}
 use mathlib.Core.Path.{_≡_, refl, sym, ap, _∙_}
-use mathlib.Core.Bool.{Bool, cond}
+use mathlib.Core.Bool.{Bool, true, false, cond}
 use mathlib.Core.List.{List, [], _∷_, _++_, map, append-nil}
 use native.Mathlib.Numerals.{add-one}
 use native.Mathlib.Omega.{arith}
 use lib.Bits.{bitOr}
 use lib.Dec.{ltb}
-use lib.ListN.{length, take, drop, set, getD, length-set, drop-of-length-le}
-use lib.Seq.{take-suc, take-suc-set, drop-cons}
-use borrow.Author.Tests.{eq-eqb, ne-eqb, ltb-true}
+use lib.ListN.{length, take, set, getD, length-set}
+use lib.Seq.{take-suc, take-suc-set}
+use borrow.Author.Tests.{ltb-true}
 use Rattle.text.proofs.Bools.{bools, T-true}
 use Rattle.text.proofs.Table.{below}
-use Rattle.element.specs.Table.{elements}
+use Rattle.element.specs.Set.{has, joined}
+use Rattle.element.specs.Table.{elements, columnOrder}
 use Rattle.element.specs.Observation.{Observation, setOf}
 use Rattle.cuts.specs.Block.{union}
-use Rattle.layout.specs.Written.{columnOrder, passing, columnsOf}
+use Rattle.layout.specs.Written.{passing, columnsOf}
 use Rattle.layout.specs.Cost.{asRow}
 use Rattle.layout.proofs.BlockBytes.{columns-set}
-use Rattle.pack.specs.Inner.{joined, isAmong, columnsIn, Listed}
-
--- A set more.
-pub joined-next : (sets : List ℕ) (all i : ℕ) → i < length sets → joined (bitOr all (getD sets i 0)) (drop (i + 1) sets) ≡ joined all (drop i sets)
-unfolding joined
-joined-next sets all i h = rw (drop-cons sets i 0 h, add-one i)
-
--- The last set.
-pub joined-end : (sets : List ℕ) (all i : ℕ) → length sets ≤ i → joined all (drop i sets) ≡ all
-unfolding joined
-joined-end sets all i h = rw drop-of-length-le
+use Rattle.pack.specs.Inner.{columnsIn, Listed}
 
 -- The sets of the rows together are the set of the elements present in some row.
 joined-rows : (all : ℕ) (rows : List Observation) → joined all (map setOf rows) ≡ union all (map asRow rows)
@@ -39,7 +30,7 @@ joined-rows all (o ∷ os) = joined-rows (bitOr all (setOf o)) os
 -- So its elements are the columns of the rows.
 pub columns-joined : (rows : List Observation) → columnsIn (joined 0 (map setOf rows)) ≡ columnsOf rows
 unfolding columnsIn
-columns-joined rows = ap (λ (s : ℕ). passing (isAmong s) columnOrder) (joined-rows 0 rows) ∙ sym (columns-set rows)
+columns-joined rows = ap (λ (s : ℕ). passing (has s) columnOrder) (joined-rows 0 rows) ∙ sym (columns-set rows)
 
 -- Each of the column order is an element.
 order-test : ℕ → Bool
@@ -63,21 +54,21 @@ pub record Listing (all : ℕ) (columns : List ℕ) (n k : ℕ) : Type 0 where
   pub most : k ≤ elements
   pub few : n ≤ k
   pub long : length columns ≡ elements
-  pub are : take n columns ≡ passing (isAmong all) (take k columnOrder)
+  pub are : take n columns ≡ passing (has all) (take k columnOrder)
 
 pub list-begin : (all : ℕ) (columns : List ℕ) → length columns ≡ elements → Listing all columns 0 0
 unfolding passing
 list-begin all columns h = record { most = omega arith; few = omega arith; long = h; are = refl }
 
 module _ {all : ℕ} {columns : List ℕ} {n k : ℕ} (l : Listing all columns n k) (h : k < elements) where
-  more : passing (isAmong all) (take (k + 1) columnOrder)
-      ≡ passing (isAmong all) (take k columnOrder) ++ cond (isAmong all (getD columnOrder k 0)) (getD columnOrder k 0 ∷ []) []
-  more = ap (λ (x : ℕ). passing (isAmong all) (take x columnOrder)) (add-one k)
-      ∙ (ap (passing (isAmong all)) (take-suc columnOrder k 0 h) ∙ passing-append (isAmong all) (take k columnOrder) (getD columnOrder k 0))
+  more : passing (has all) (take (k + 1) columnOrder)
+      ≡ passing (has all) (take k columnOrder) ++ cond (has all (getD columnOrder k 0)) (getD columnOrder k 0 ∷ []) []
+  more = ap (λ (x : ℕ). passing (has all) (take x columnOrder)) (add-one k)
+      ∙ (ap (passing (has all)) (take-suc columnOrder k 0 h) ∙ passing-append (has all) (take k columnOrder) (getD columnOrder k 0))
 
   module _ (element : ℕ) (is : element ≡ getD columnOrder k 0) where
     -- An element of the set is listed.
-    pub list-in : all / 2 ^ element % 2 ≡ 1 → Listing all (set columns n element) (n + 1) (k + 1)
+    pub list-in : has all element ≡ true → Listing all (set columns n element) (n + 1) (k + 1)
     list-in e = record {
       most = omega arith;
       few = omega (arith, l .few);
@@ -86,16 +77,16 @@ module _ {all : ℕ} {columns : List ℕ} {n k : ℕ} (l : Listing all columns n
           ap (λ (x : ℕ). take x (set columns n element)) (add-one n)
           ∙ (take-suc-set columns n element (omega (arith, l .few, l .long))
           ∙ (ap (λ (x : List ℕ). x ++ (element ∷ [])) (l .are)
-          ∙ sym (more ∙ rw (← is, eq-eqb _ _ e))));
+          ∙ sym (more ∙ rw (← is, e))));
     }
 
     -- Another one is not.
-    pub list-out : (all / 2 ^ element % 2 ≡ 1 → ⊥) → Listing all columns n (k + 1)
+    pub list-out : has all element ≡ false → Listing all columns n (k + 1)
     list-out e = record {
       most = omega arith;
       few = omega (arith, l .few);
       long = l .long;
-      are = l .are ∙ sym (more ∙ rw (← is, ne-eqb _ _ e) (append-nil (passing (isAmong all) (take k columnOrder))));
+      are = l .are ∙ sym (more ∙ rw (← is, e) (append-nil (passing (has all) (take k columnOrder))));
     }
 
 -- All of the column order is looked at.

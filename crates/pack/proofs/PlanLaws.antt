@@ -10,6 +10,7 @@ use lib.ListN.{length, take, drop, getD, length-take, length-drop, length-map, t
 use lib.Seq.{take-length, length-take-le, getD-take, getD-drop, ext-getD}
 use borrow.Author.Tests.{eq-eqb, le-leb}
 use Rattle.refusal.specs.declared.Refusal.{Refusal}
+use Rattle.element.specs.Set.{bytesIn}
 use Rattle.element.specs.Table.{elements}
 use Rattle.element.specs.Observation.{Observation, setOf}
 use Rattle.report.specs.Report.{accepted, read}
@@ -29,7 +30,7 @@ use Rattle.layout.proofs.Accepted.{Right, AllRight, accepted-right, accepted-ro
 use Rattle.layout.proofs.NoShorter.{Cutting, no-shorter}
 use Rattle.layout.proofs.BlockBytes.{written-bytes}
 use Rattle.layout.proofs.Packed.{rows-are, valid-rows, rows-valid, packed}
-use Rattle.pack.specs.Inner.{observationsOf, observed, Indexed, notedBytes, SizesAre, RowsCut, RoomFor, CutIs, PlannedIs}
+use Rattle.pack.specs.Inner.{observationsOf, observed, Indexed, SizesAre, RowsCut, RoomFor, CutIs, PlannedIs}
 use Rattle.pack.specs.declared.plan.Planned.the-variants as Planned′
 use Rattle.pack.proofs.BlockLaws.{rows-sets}
 use Rattle.pack.proofs.SizeLaws.{noted-size}
@@ -107,7 +108,7 @@ right-at (o ∷ os) (suc i) r h = right-at os i (r .1) (omega arith)
 module _ {report : List ℕ} {index : Index} (is : read report ≡ accepted (observed report)) (x : Indexed report index) where
   -- The size of a row, as the index notes it.
   size-at : (i : ℕ) → i < length (observed report)
-      → notedBytes (take elements (drop (i * elements) (index .lengths))) (getD (index .sets) i 0) ≡ sizeOf (getD (observed report) i [])
+      → bytesIn (take elements (drop (i * elements) (index .lengths))) (getD (index .sets) i 0) ≡ sizeOf (getD (observed report) i [])
   size-at i h =
       let right : Right (getD (observed report) i []) = right-at (observed report) i (accepted-right report (observed report) is) h in
       let long : length (take elements (drop (i * elements) (index .lengths))) ≡ elements =

@@ -12,9 +12,9 @@ use Rattle.text.proofs.Bools.{bools}
 use Rattle.element.specs.Table.{elements}
 use Rattle.element.specs.Observation.{Observation, isPresent, bit, setOf}
 use Rattle.element.proofs.Sets.{bit-small}
-use Rattle.cuts.specs.Block.{lengthIf, nameBytes}
+use Rattle.element.specs.Set.{lengthIf, bytesIn}
 use Rattle.layout.specs.Cost.{sizeOf}
-use Rattle.pack.specs.Inner.{notedBytes, SizesAre}
+use Rattle.pack.specs.Inner.{SizesAre}
 
 -- No size is filled in.
 pub sizes-begin : (sets lengths sizes : List ℕ) → SizesAre sets lengths sizes 0
@@ -22,11 +22,11 @@ sizes-begin sets lengths sizes = record { at = λ i h. absurd (omega arith) }
 
 -- One size more.
 pub sizes-next : {sets lengths sizes : List ℕ} {row size : ℕ} → SizesAre sets lengths sizes row → row < length sizes
-    → size ≡ notedBytes (take (row * elements + elements - row * elements) (drop (row * elements) lengths)) (getD sets row 0)
+    → size ≡ bytesIn (take (row * elements + elements - row * elements) (drop (row * elements) lengths)) (getD sets row 0)
     → SizesAre sets lengths (set sizes row size) (row + 1)
 sizes-next {sets} {lengths} {sizes} {row} {size} s h e = record { at = at }
   where
-    at : (i : ℕ) → i < row + 1 → getD (set sizes row size) i 0 ≡ notedBytes (take elements (drop (i * elements) lengths)) (getD sets i 0)
+    at : (i : ℕ) → i < row + 1 → getD (set sizes row size) i 0 ≡ bytesIn (take elements (drop (i * elements) lengths)) (getD sets i 0)
     at i k =
         bools (eqb i row)
         (λ a.
@@ -46,8 +46,8 @@ filled-room filled rest rows e = omega (arith, length-append filled rest)
 
 -- What is noted of an observation, value by value, makes its size.
 pub noted-size : (o : Observation) (lengths : List ℕ) → length lengths ≡ length o
-    → ((e : ℕ) → e < length o → isPresent (getD o e []) ≡ true → getD lengths e 0 ≡ length (getD o e [])) → notedBytes lengths (setOf o) ≡ sizeOf o
-unfolding nameBytes setOf sizeOf
+    → ((e : ℕ) → e < length o → isPresent (getD o e []) ≡ true → getD lengths e 0 ≡ length (getD o e [])) → bytesIn lengths (setOf o) ≡ sizeOf o
+unfolding bytesIn setOf sizeOf
 noted-size [] [] h n = refl
 noted-size [] (l ∷ ls) h n = absurd (omega arith)
 noted-size (v ∷ o) [] h n = absurd (omega arith)

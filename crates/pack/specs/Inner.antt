@@ -1,23 +1,22 @@
 -- What the private functions of packing promise each other. A reviewer of the promise can skip this file.
-use Prim.Native.Nat.{ℕ, _+_, _*_, _/_, _%_, _^_, _≤_, _<_}
+use Prim.Native.Nat.{ℕ, _+_, _*_, _≤_, _<_}
 use mathlib.Core.Path.{_≡_}
 use mathlib.Core.Bool.{Bool, cond, _&&_}
 use mathlib.Core.List.{List, [], _∷_, _++_}
-use lib.Bits.{bitOr}
 use lib.Dec.{eqb, leb, ltb}
 use lib.ListN.{length, take, drop, getD}
 use Rattle.text.specs.Lines.{lineFeed, bar}
 use Rattle.text.specs.Output.{over}
-use Rattle.element.specs.Table.{elements}
+use Rattle.element.specs.Set.{has, bytesIn}
+use Rattle.element.specs.Table.{elements, columnOrder}
 use Rattle.element.specs.Observation.{Observation}
 use Rattle.report.specs.Report.{Outcome, accepted, refused, read}
 use Rattle.report.specs.Starts.{startsIn}
 use Rattle.report.specs.Index.{Index, Noted}
-use Rattle.cuts.specs.Block.{nameBytes}
 use Rattle.cuts.specs.Plan.{ShortestPromised}
 use Rattle.cuts.specs.declared.Plan.{Plan}
 use Rattle.layout.specs.Packed.{PackedIs}
-use Rattle.layout.specs.Written.{columnOrder, passing, lineOf, valuesAt, dataLines, blockText, written, Valid}
+use Rattle.layout.specs.Written.{passing, lineOf, valuesAt, dataLines, blockText, written, Valid}
 use Rattle.pack.specs.declared.plan.Planned.{Planned}
 use Rattle.pack.specs.declared.plan.Planned.the-variants as Planned
 
@@ -80,18 +79,9 @@ pub record StandsTo (report : List ℕ) (start : ℕ) (text : List ℕ) (end : �
 
 -- ---- columns
 
--- The set of the elements that are in one of the sets, or in the one that is given.
-unfoldable pub joined : ℕ → List ℕ → ℕ
-joined set [] = set
-joined set (other ∷ others) = joined (bitOr set other) others
-
--- The element of an index is in the set.
-abbrev pub isAmong : ℕ → ℕ → Bool
-isAmong set index = eqb (set / 2 ^ index % 2) 1
-
 -- The elements of a set, in the order in which columns are written.
 unfoldable pub columnsIn : ℕ → List ℕ
-columnsIn set = passing (isAmong set) columnOrder
+columnsIn set = passing (has set) columnOrder
 
 -- The first n of the list are the elements of the set.
 pub record Listed (set : ℕ) (columns : List ℕ) (n : ℕ) : Type 0 where
@@ -127,13 +117,9 @@ pub record BlocksAsk (report : List ℕ) (index : Index) (cuts output : List ℕ
 
 -- ---- the plan
 
--- The bytes of the values of a set's elements, from the lengths that are noted for the elements from the set's lowest bit on.
-abbrev pub notedBytes : List ℕ → ℕ → ℕ
-notedBytes lengths set = nameBytes lengths set
-
 -- The first of the sizes are those of the rows, as the index notes them.
 pub record SizesAre (sets lengths sizes : List ℕ) (count : ℕ) : Type 0 where
-  pub at : (i : ℕ) → i < count → getD sizes i 0 ≡ notedBytes (take elements (drop (i * elements) lengths)) (getD sets i 0)
+  pub at : (i : ℕ) → i < count → getD sizes i 0 ≡ bytesIn (take elements (drop (i * elements) lengths)) (getD sets i 0)
 
 -- The first rows of the index are cut, by their sets and their sizes, which are filled in.
 pub record RowsCut (sets lengths sizes : List ℕ) (rows : ℕ) (before after : List ℕ) (plan : Plan) : Type 0 where

@@ -17,40 +17,40 @@ abbrev μ-loop : tie.MeasureT-loop
 μ-loop order set columns₀ n₀ k₀ columns n k = length order - k
 
 loop-holds : tie.Need-loop-holds Inv-loop μ-loop
-loop-holds c = list-begin (c .args .set) (c .args .columns .now) (c .pre .1)
+loop-holds c = list-begin (c .before .before .args .set) (c .before .before .args .columns .now) (c .before .before .pre .1)
 
 mul-element : tie.Need-mul-element Inv-loop μ-loop
-mul-element c = omega (arith, order-length (c .before .before .args .order .now) (c .before .before .pre .0), c .loop-test .taken)
+mul-element c = omega (arith, order-length (c .before .before .before .before .args .order .now) (c .before .before .before .before .pre .0), c .loop-test .taken)
 
 shared-slice-read-element : tie.Need-shared-slice-read-element Inv-loop μ-loop
 shared-slice-read-element c = c .before .loop-test .taken
 
-shr-if1 : tie.Need-shr-if1 Inv-loop μ-loop
-shr-if1 c = omega (arith, ap (λ (l : List ℕ). getD l (c .before .before .loop .k) 0) (c .before .before .before .pre .0), order-known (c .before .before .loop .k) (omega (arith, order-length (c .before .before .before .args .order .now) (c .before .before .before .pre .0), c .before .loop-test .taken)))
+is-in-requires : tie.Need-is-in-requires Inv-loop μ-loop
+is-in-requires c κs = omega (arith, ap (λ (l : List ℕ). getD l (c .before .before .loop .k) 0) (c .before .before .before .before .before .pre .0), order-known (c .before .before .loop .k) (omega (arith, order-length (c .before .before .before .before .before .args .order .now) (c .before .before .before .before .before .pre .0), c .before .loop-test .taken)))
 
 mul-columns : tie.Need-mul-columns Inv-loop μ-loop
-mul-columns c = omega (arith, c .before .before .before .loop .inv .few, c .before .before .before .loop .inv .most)
+mul-columns c = omega (arith, c .before .before .before .before .loop .inv .few, c .before .before .before .before .loop .inv .most)
 
 slice-write-columns : tie.Need-slice-write-columns Inv-loop μ-loop
-slice-write-columns c = omega (arith, c .before .before .before .loop .inv .few, c .before .before .before .loop .inv .long, order-length (c .before .before .before .before .args .order .now) (c .before .before .before .before .pre .0), c .before .before .loop-test .taken)
+slice-write-columns c = omega (arith, c .before .before .before .before .loop .inv .few, c .before .before .before .before .loop .inv .long, order-length (c .before .before .before .before .before .before .before .args .order .now) (c .before .before .before .before .before .before .before .pre .0), c .before .before .before .loop-test .taken)
 
 add-n : tie.Need-add-n Inv-loop μ-loop
-add-n c = omega (arith, c .before .before .before .loop .inv .few, c .before .before .before .loop .inv .most)
+add-n c = omega (arith, c .before .before .before .before .loop .inv .few, c .before .before .before .before .loop .inv .most)
 
 add-k : tie.Need-add-k Inv-loop μ-loop
-add-k c = omega (arith, c .before .before .before .loop .inv .most)
+add-k c = omega (arith, c .before .before .before .before .loop .inv .most)
 
 loop-less : tie.Need-loop-less Inv-loop μ-loop
-loop-less c = omega (arith, c .before .before .loop-test .taken)
+loop-less c = omega (arith, c .before .before .before .loop-test .taken)
 
 loop-again : tie.Need-loop-again Inv-loop μ-loop
-loop-again c = ⊎-elim (λ w. rw (w .1, w .2) (list-in (c .before .before .before .loop .inv) (omega (arith, order-length (c .before .before .before .before .args .order .now) (c .before .before .before .before .pre .0), c .before .before .loop-test .taken)) _ (ap (λ (l : List ℕ). getD l (c .before .before .before .loop .k) 0) (c .before .before .before .before .pre .0)) (w .0 .taken))) (λ w. rw (w .1, w .2) (list-out (c .before .before .before .loop .inv) (omega (arith, order-length (c .before .before .before .before .args .order .now) (c .before .before .before .before .pre .0), c .before .before .loop-test .taken)) _ (ap (λ (l : List ℕ). getD l (c .before .before .before .loop .k) 0) (c .before .before .before .before .pre .0)) (w .0 .left))) (c .if1 .came)
+loop-again c = ⊎-elim (λ w. rw (w .1, w .2) (list-in (c .before .before .before .before .loop .inv) (omega (arith, order-length (c .before .before .before .before .before .before .before .args .order .now) (c .before .before .before .before .before .before .before .pre .0), c .before .before .before .loop-test .taken)) _ (ap (λ (l : List ℕ). getD l (c .before .before .before .before .loop .k) 0) (c .before .before .before .before .before .before .before .pre .0)) (sym (c .before .is-in .ensures) ∙ w .0 .taken))) (λ w. rw (w .1, w .2) (list-out (c .before .before .before .before .loop .inv) (omega (arith, order-length (c .before .before .before .before .before .before .before .args .order .now) (c .before .before .before .before .before .before .before .pre .0), c .before .before .before .loop-test .taken)) _ (ap (λ (l : List ℕ). getD l (c .before .before .before .before .loop .k) 0) (c .before .before .before .before .before .before .before .pre .0)) (sym (c .before .is-in .ensures) ∙ w .0 .left))) (c .if1 .came)
 
 same-length : tie.Need-same-length Inv-loop μ-loop
-same-length c = c .before .loop .inv .long ∙ sym (c .before .before .pre .1)
+same-length c = c .before .loop .inv .long ∙ sym (c .before .before .before .before .pre .1)
 
 returns : tie.Need-returns Inv-loop μ-loop
-returns c = list-end (c .before .loop .inv) (omega (arith, order-length (c .before .before .args .order .now) (c .before .before .pre .0), c .loop-test .left))
+returns c = list-end (c .before .loop .inv) (omega (arith, order-length (c .before .before .before .before .args .order .now) (c .before .before .before .before .pre .0), c .loop-test .left))
 
 pub list-in-spec : {M : Type 1} → statement M
 list-in-spec =
@@ -61,7 +61,7 @@ list-in-spec =
     loop-holds
     mul-element
     shared-slice-read-element
-    shr-if1
+    is-in-requires
     mul-columns
     slice-write-columns
     add-n

@@ -28,35 +28,32 @@ add-end c =
     let pre = c .before .before .before .before .before .pre in
     omega (arith, pre .1, c .before .loop .inv .1)
 
-mul-row-size : tie.Need-mul-row-size Inv-loop μ-loop
-mul-row-size c = search needs
+mul-value-bytes : tie.Need-mul-value-bytes Inv-loop μ-loop
+mul-value-bytes c = search needs
 
-shared-slice-read-row-size : tie.Need-shared-slice-read-row-size Inv-loop μ-loop
-shared-slice-read-row-size c =
+shared-slice-read-value-bytes : tie.Need-shared-slice-read-value-bytes Inv-loop μ-loop
+shared-slice-read-value-bytes c =
     let pre = c .before .before .before .before .before .before .pre in
     let loop = c .before .before .loop in
     omega (arith, pre .0, loop .inv .1)
 
-mul-row-size-2 : tie.Need-mul-row-size-2 Inv-loop μ-loop
-mul-row-size-2 c = search needs
+mul-value-bytes-2 : tie.Need-mul-value-bytes-2 Inv-loop μ-loop
+mul-value-bytes-2 c = search needs
 
-sub-row-size : tie.Need-sub-row-size Inv-loop μ-loop
-sub-row-size c = search needs
+sub-value-bytes : tie.Need-sub-value-bytes Inv-loop μ-loop
+sub-value-bytes c = search needs
 
-part-row-size-start : tie.Need-part-row-size-start Inv-loop μ-loop
-part-row-size-start c = search needs
+part-value-bytes-start : tie.Need-part-value-bytes-start Inv-loop μ-loop
+part-value-bytes-start c = search needs
 
-part-row-size-end : tie.Need-part-row-size-end Inv-loop μ-loop
-part-row-size-end c =
+part-value-bytes-end : tie.Need-part-value-bytes-end Inv-loop μ-loop
+part-value-bytes-end c =
     let pre = c .before .before .before .before .before .before .pre in
     let loop = c .before .before .loop in
     omega (arith, pre .1, loop .inv .1)
 
-row-size-requires : tie.Need-row-size-requires Inv-loop μ-loop
-row-size-requires c κs =
-    let pre = c .before .before .before .before .before .before .before .pre in
-    let loop = c .before .before .before .loop in
-    simp (length-take, length-drop) (omega (arith, pre .1, loop .inv .1))
+value-bytes-requires : tie.Need-value-bytes-requires Inv-loop μ-loop
+value-bytes-requires c κs = search needs
 
 mul-sizes : tie.Need-mul-sizes Inv-loop μ-loop
 mul-sizes c = search needs
@@ -76,7 +73,7 @@ loop-again : tie.Need-loop-again Inv-loop μ-loop
 loop-again c =
     let loop = c .before .before .before .before .loop in
     let loop-test = c .before .before .before .loop-test in
-    (simp length-set (omega arith), simp length-set (loop .inv .1), sizes-next (loop .inv .2) (loop-test .taken) (c .row-size .ensures))
+    (simp length-set (omega arith), simp length-set (loop .inv .1), sizes-next (loop .inv .2) (loop-test .taken) (c .value-bytes .ensures))
 
 same-length : tie.Need-same-length Inv-loop μ-loop
 same-length c = c .before .loop .inv .1
@@ -95,13 +92,13 @@ fill-sizes-spec =
     loop-holds
     mul-start
     add-end
-    mul-row-size
-    shared-slice-read-row-size
-    mul-row-size-2
-    sub-row-size
-    part-row-size-start
-    part-row-size-end
-    row-size-requires
+    mul-value-bytes
+    shared-slice-read-value-bytes
+    mul-value-bytes-2
+    sub-value-bytes
+    part-value-bytes-start
+    part-value-bytes-end
+    value-bytes-requires
     mul-sizes
     slice-write-sizes
     add-row

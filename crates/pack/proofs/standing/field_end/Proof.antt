@@ -1,20 +1,21 @@
 -- `pack::standing::field_end` meets its contract.
+use borrow.Author.Tests.{eqb-true, eqb-false}
 use borrow.Author.Needs.{needs}
-use mathlib.Core.Path.{refl}
+use mathlib.Core.Path.{_∙_, refl, sym}
 use native.Mathlib.Omega.{arith}
 use Rattle.pack.proofs.IndexLaws.{value-inside}
 use Rattle.pack.proofs.StandingLaws.{field-there, field-absent}
 use Rattle.pack.proofs.standing.field_end.Statement.{statement}
 use Rattle.pack.proofs.standing.field_end.Tie as tie
 
-mul-if1 : tie.Need-mul-if1
-mul-if1 c = search needs
+mul-is-in : tie.Need-mul-is-in
+mul-is-in c = search needs
 
-shared-slice-read-if1 : tie.Need-shared-slice-read-if1
-shared-slice-read-if1 c = search needs
+shared-slice-read-is-in : tie.Need-shared-slice-read-is-in
+shared-slice-read-is-in c = search needs
 
-shr-if1 : tie.Need-shr-if1
-shr-if1 c = search needs
+is-in-requires : tie.Need-is-in-requires
+is-in-requires c κs = search needs
 
 mul-entry : tie.Need-mul-entry
 mul-entry c = search needs
@@ -41,13 +42,13 @@ wide-requires-2 : tie.Need-wide-requires-2
 wide-requires-2 c κs = search needs
 
 add-byte-end : tie.Need-add-byte-end
-add-byte-end c = omega (arith, value-inside (c .before .before .before .before .before .before .before .before .before .before .before .args .row) (c .before .before .before .before .before .before .before .before .before .before .before .args .element) (c .before .before .before .before .before .before .before .before .before .before .before .pre .0) (c .before .before .before .before .before .before .before .before .before .before .before .pre .1) (c .before .before .before .before .before .before .before .before .before .before .before .pre .2) (c .before .before .before .before .before .if1 .taken), c .before .before .before .wide .ensures, c .wide2 .ensures, c .before .before .if2 .taken)
+add-byte-end c = omega (arith, value-inside (c .before .before .before .before .before .before .before .before .before .before .before .before .args .row) (c .before .before .before .before .before .before .before .before .before .before .before .before .args .element) (c .before .before .before .before .before .before .before .before .before .before .before .before .pre .0) (c .before .before .before .before .before .before .before .before .before .before .before .before .pre .1) (c .before .before .before .before .before .before .before .before .before .before .before .before .pre .2) (eqb-true _ 1 (sym (c .before .before .before .before .before .before .is-in .ensures) ∙ c .before .before .before .before .before .if1 .taken)), c .before .before .before .wide .ensures, c .wide2 .ensures, c .before .before .if2 .taken)
 
 byte-end-requires : tie.Need-byte-end-requires
 byte-end-requires c κs = search needs
 
 returns : tie.Need-returns
-returns c = field-there (c .before .before .before .before .before .before .before .before .before .before .before .before .args .row) (c .before .before .before .before .before .before .before .before .before .before .before .before .args .element) (c .before .before .before .before .before .before .before .before .before .before .before .before .pre .0) (c .before .before .before .before .before .before .before .before .before .before .before .before .pre .1) _ _ _ (c .before .before .before .before .before .before .before .before .before .before .before .before .pre .2) (c .before .before .before .before .before .before .if1 .taken) _ _ (c .before .before .before .before .wide .ensures) (c .before .before .before .if2 .taken) (c .before .wide2 .ensures) (c .byte-end .ensures)
+returns c = field-there (c .before .before .before .before .before .before .before .before .before .before .before .before .before .args .row) (c .before .before .before .before .before .before .before .before .before .before .before .before .before .args .element) (c .before .before .before .before .before .before .before .before .before .before .before .before .before .pre .0) (c .before .before .before .before .before .before .before .before .before .before .before .before .before .pre .1) _ _ _ (c .before .before .before .before .before .before .before .before .before .before .before .before .before .pre .2) (eqb-true _ 1 (sym (c .before .before .before .before .before .before .before .is-in .ensures) ∙ c .before .before .before .before .before .before .if1 .taken)) _ _ (c .before .before .before .before .wide .ensures) (c .before .before .before .if2 .taken) (c .before .wide2 .ensures) (c .byte-end .ensures)
 
 returns-2 : tie.Need-returns-2
 returns-2 c = λ h. absurd (h refl)
@@ -56,15 +57,15 @@ byte-end-requires-2 : tie.Need-byte-end-requires-2
 byte-end-requires-2 c κs = search needs
 
 returns-3 : tie.Need-returns-3
-returns-3 c = field-absent (c .before .before .before .before .before .before .before .args .row) (c .before .before .before .before .before .before .before .args .element) (c .before .before .before .before .before .before .before .pre .0) (c .before .before .before .before .before .before .before .pre .1) _ _ _ (c .before .if1 .left) (c .byte-end2 .ensures)
+returns-3 c = field-absent (c .before .before .before .before .before .before .before .before .args .row) (c .before .before .before .before .before .before .before .before .args .element) (c .before .before .before .before .before .before .before .before .pre .0) (c .before .before .before .before .before .before .before .before .pre .1) _ _ _ (eqb-false _ 1 (sym (c .before .before .is-in .ensures) ∙ c .before .if1 .left)) (c .byte-end2 .ensures)
 
 pub field-end-spec : {M : Type 1} → statement M
 field-end-spec =
     tie.close
     (tie.spec
-    mul-if1
-    shared-slice-read-if1
-    shr-if1
+    mul-is-in
+    shared-slice-read-is-in
+    is-in-requires
     mul-entry
     add-entry
     mul-wide

@@ -21,26 +21,26 @@ mul-element c = search needs
 shared-slice-read-element : tie.Need-shared-slice-read-element Inv-loop μ-loop
 shared-slice-read-element c = search needs
 
-mul-if1 : tie.Need-mul-if1 Inv-loop μ-loop
-mul-if1 c = search needs
+mul-is-in : tie.Need-mul-is-in Inv-loop μ-loop
+mul-is-in c = search needs
 
-shared-slice-read-if1 : tie.Need-shared-slice-read-if1 Inv-loop μ-loop
-shared-slice-read-if1 c = search needs
+shared-slice-read-is-in : tie.Need-shared-slice-read-is-in Inv-loop μ-loop
+shared-slice-read-is-in c = search needs
 
-shr-if1 : tie.Need-shr-if1 Inv-loop μ-loop
-shr-if1 c = omega (arith, c .before .before .before .before .before .before .before .before .before .pre .2 .known (c .before .before .before .loop .k) (c .before .before .loop-test .taken))
+is-in-requires : tie.Need-is-in-requires Inv-loop μ-loop
+is-in-requires c κs = omega (arith, c .before .before .before .before .before .before .before .before .before .pre .2 .known (c .before .before .before .loop .k) (c .before .before .loop-test .taken))
 
 mul-wide : tie.Need-mul-wide Inv-loop μ-loop
-mul-wide c = omega (arith, c .before .before .before .before .before .before .before .before .before .before .pre .1, c .before .before .before .before .before .before .before .before .before .before .pre .0 .sets-room, c .before .before .before .before .before .before .before .before .before .before .pre .0 .starts-room)
+mul-wide c = omega (arith, c .before .before .before .before .before .before .before .before .before .before .before .pre .1, c .before .before .before .before .before .before .before .before .before .before .before .pre .0 .sets-room, c .before .before .before .before .before .before .before .before .before .before .before .pre .0 .starts-room)
 
 add-wide : tie.Need-add-wide Inv-loop μ-loop
-add-wide c = omega (arith, c .before .before .before .before .before .before .before .before .before .before .pre .1, c .before .before .before .before .before .before .before .before .before .before .pre .0 .starts-room, c .before .before .before .before .before .before .before .before .before .before .pre .2 .known (c .before .before .before .before .loop .k) (c .before .before .before .loop-test .taken))
+add-wide c = omega (arith, c .before .before .before .before .before .before .before .before .before .before .before .pre .1, c .before .before .before .before .before .before .before .before .before .before .before .pre .0 .starts-room, c .before .before .before .before .before .before .before .before .before .before .before .pre .2 .known (c .before .before .before .before .before .loop .k) (c .before .before .before .before .loop-test .taken))
 
 mul-wide-2 : tie.Need-mul-wide-2 Inv-loop μ-loop
-mul-wide-2 c = omega (arith, c .before .before .before .before .before .before .before .before .before .before .pre .1, c .before .before .before .before .before .before .before .before .before .before .pre .0 .starts-room, c .before .before .before .before .before .before .before .before .before .before .pre .2 .known (c .before .before .before .before .loop .k) (c .before .before .before .loop-test .taken))
+mul-wide-2 c = omega (arith, c .before .before .before .before .before .before .before .before .before .before .before .pre .1, c .before .before .before .before .before .before .before .before .before .before .before .pre .0 .starts-room, c .before .before .before .before .before .before .before .before .before .before .before .pre .2 .known (c .before .before .before .before .before .loop .k) (c .before .before .before .before .loop-test .taken))
 
 shared-slice-read-wide : tie.Need-shared-slice-read-wide Inv-loop μ-loop
-shared-slice-read-wide c = omega (arith, c .before .before .before .before .before .before .before .before .before .before .before .pre .1, c .before .before .before .before .before .before .before .before .before .before .before .pre .0 .starts-room, c .before .before .before .before .before .before .before .before .before .before .before .pre .2 .known (c .before .before .before .before .before .loop .k) (c .before .before .before .before .loop-test .taken))
+shared-slice-read-wide c = omega (arith, c .before .before .before .before .before .before .before .before .before .before .before .before .pre .1, c .before .before .before .before .before .before .before .before .before .before .before .before .pre .0 .starts-room, c .before .before .before .before .before .before .before .before .before .before .before .before .pre .2 .known (c .before .before .before .before .before .before .loop .k) (c .before .before .before .before .before .loop-test .taken))
 
 wide-requires : tie.Need-wide-requires Inv-loop μ-loop
 wide-requires c κs = search needs
@@ -72,9 +72,9 @@ line-start-spec =
     loop-holds
     mul-element
     shared-slice-read-element
-    mul-if1
-    shared-slice-read-if1
-    shr-if1
+    mul-is-in
+    shared-slice-read-is-in
+    is-in-requires
     mul-wide
     add-wide
     mul-wide-2
