@@ -6,12 +6,9 @@ use mathlib.Core.List.{List, [], _∷_, _++_, map, append-nil}
 use native.Mathlib.Numerals.{add-one}
 use native.Mathlib.Omega.{arith}
 use lib.Bits.{bitOr}
-use lib.Dec.{ltb}
 use lib.ListN.{length, take, set, getD, length-set}
 use lib.Seq.{take-suc, take-suc-set}
-use borrow.Author.Tests.{ltb-true}
-use Rattle.text.proofs.Bools.{bools, T-true}
-use Rattle.text.proofs.Table.{below}
+use Rattle.text.proofs.Bools.{bools}
 use Rattle.element.specs.Set.{has, joined}
 use Rattle.element.specs.Table.{elements, columnOrder}
 use Rattle.element.specs.Observation.{Observation, setOf}
@@ -31,17 +28,6 @@ joined-rows all (o ∷ os) = joined-rows (bitOr all (setOf o)) os
 pub columns-joined : (rows : List Observation) → columnsIn (joined 0 (map setOf rows)) ≡ columnsOf rows
 unfolding columnsIn
 columns-joined rows = ap (λ (s : ℕ). passing (has s) columnOrder) (joined-rows 0 rows) ∙ sym (columns-set rows)
-
--- Each of the column order is an element.
-order-test : ℕ → Bool
-order-test k = ltb (getD columnOrder k 0) elements
-
-pub order-length : (order : List ℕ) → order ≡ columnOrder → length order ≡ elements
-order-length order e = ap length e
-
-pub order-known : (k : ℕ) → k < elements → getD columnOrder k 0 < elements
-unfolding order-test
-order-known k h = ltb-true _ _ (T-true _ (below order-test elements tt k h))
 
 -- Those that pass a test, and one number more.
 passing-append : (p : ℕ → Bool) (xs : List ℕ) (e : ℕ) → passing p (xs ++ (e ∷ [])) ≡ passing p xs ++ cond (p e) (e ∷ []) []

@@ -6,7 +6,8 @@ use mathlib.Core.Path.{sym, ap, _∙_}
 use native.Mathlib.Omega.{arith}
 use lib.ListN.{length, getD}
 use borrow.Author.Needs.{needs}
-use Rattle.pack.proofs.ColumnLaws.{order-length, order-known, Listing, list-begin, list-in, list-out, list-end}
+use Rattle.element.proofs.Order.{order-length, order-known}
+use Rattle.pack.proofs.ColumnLaws.{Listing, list-begin, list-in, list-out, list-end}
 use Rattle.pack.proofs.column.list_in.Statement.{statement}
 use Rattle.pack.proofs.column.list_in.Tie as tie
 
