@@ -15,10 +15,10 @@ use Rattle.element.specs.Form.{valueOf}
 use Rattle.element.specs.Sums.{Sum, IsRight, AreRight, valueSums}
 use Rattle.element.specs.Table.{indexIn, indexOf}
 
--- P3 to P10.
+-- P4 to P10.
 pub value-sums-right : AreRight valueSums
 unfolding IsRight AreRight valueSums valueOf indexOf indexIn same starts leading isOnly after number isDegrees isRightAscension units rightAscension declination isLeap yearDays monthLength monthDays isDate dayNumber isPointed isDecimal places isCapitals isMinorPlanet isCometEnd isComet provID isDigits isCount part bare withSign isFraction isTimeEnd isTime isMoment dayOf fraction microseconds obsTime
-value-sums-right = (refl, (refl, (refl, (refl, (refl, (refl, (refl, (refl, (refl, (refl, (refl, tt)))))))))))
+value-sums-right = (refl, (refl, (refl, (refl, (refl, (refl, (refl, (refl, (refl, (refl, tt))))))))))
 
 -- Two tables that are right are right one after the other.
 pub right-append : (xs ys : List Sum) → AreRight xs → AreRight ys → AreRight (xs ++ ys)

@@ -6,6 +6,7 @@ pub mod Check
 pub mod Decimal
 pub mod Designation
 pub mod Numeral
+pub mod Paper
 pub mod Sign
 pub mod Time
 pub mod Word
