@@ -4,7 +4,7 @@ use mathlib.Core.Path.{_≡_}
 use mathlib.Core.List.{List, [], _∷_}
 use lib.IntN.{pos, negℤ}
 use Rattle.text.specs.Bytes.{bytes}
-use Rattle.value.specs.Paper.{PaperValue, fault, noValue, time, angle, paperValue}
+use Rattle.value.specs.Paper.{noValue, time, angle, PaperValue, fault, right, paperValue}
 use Rattle.element.specs.Form.{valueOf}
 use Rattle.element.specs.Table.{indexOf}
 
@@ -15,7 +15,7 @@ pub data Sum : Type 1 where
 
 -- The sum is right.
 unfoldable pub IsRight : Sum → Type 0
-IsRight (left gives right) = left ≡ right
+IsRight (sum gives result) = sum ≡ result
 
 -- Every sum of a table is right.
 unfoldable pub AreRight : List Sum → Type 0
@@ -29,14 +29,14 @@ value name text = paperValue (valueOf (indexOf (bytes name)) (bytes text))
 -- P4 to P10.
 unfoldable pub valueSums : List Sum
 valueSums =
-    (value "obsTime" "1858-11-16T00:00:00Z" gives time (negℤ (pos 1)) 0) ∷
+    (value "obsTime" "1858-11-16T00:00:00Z" gives right (time (negℤ (pos 1)) 0)) ∷
     (value "obsTime" "2023-02-29T00:00:00Z" gives fault 10) ∷
-    (value "ra" "359.999999999" gives angle (pos 359999999999)) ∷
+    (value "ra" "359.999999999" gives right (angle (pos 359999999999))) ∷
     (value "ra" "360" gives fault 10) ∷
     (value "ra" "005" gives fault 9) ∷
-    (value "dec" "-0.25" gives angle (negℤ (pos 250000000))) ∷
+    (value "dec" "-0.25" gives right (angle (negℤ (pos 250000000)))) ∷
     (value "dec" "90.000000001" gives fault 10) ∷
-    (value "dec" "-90" gives angle (negℤ (pos 90000000000))) ∷
-    (value "provID" "2016 AZ6" gives noValue) ∷
+    (value "dec" "-90" gives right (angle (negℤ (pos 90000000000)))) ∷
+    (value "provID" "2016 AZ6" gives right noValue) ∷
     (value "provID" "2016 AI6" gives fault 9) ∷
     []
