@@ -8,29 +8,29 @@ use lib.ListN.{length, take, drop, getD}
 use borrow.Author.Tests.{le-leb, lt-leb, ltb-true, ltb-false}
 use native.Mathlib.Omega.{arith}
 use Rattle.text.proofs.Bools.{bools, neither, never}
+use Rattle.refusal.specs.Paper.{Paper, paper, Answer, refusedBy, absent, given}
 use Rattle.refusal.specs.declared.Kind.the-variants.{NoObservation, NoElement}
 use Rattle.refusal.specs.declared.Refusal.{Refusal}
+use Rattle.value.specs.Paper.{Exact, noValue, paperValue}
 use Rattle.element.specs.Table.{elements}
 use Rattle.element.specs.Form.{valueOf, hasValue}
 use Rattle.element.specs.Observation.{isPresent, bit}
 use Rattle.element.proofs.Sets.{has-set}
 use Rattle.report.specs.Report.{Outcome, accepted, refused, read}
 use Rattle.report.specs.Starts.{startsIn}
-use Rattle.report.specs.Answers.{checkedOf, request, isObservation, isElement, valueAt, startAt, shownOf, showingOf, exact, valuedOf}
+use Rattle.report.specs.Answers.{checkedPaper, checkedAnswer, request, isObservation, isElement, valueAt, startAt, shownOf, showingPaper, showingAnswer, exact, valuedAnswer}
 use Rattle.report.specs.Index.{Index, roomIn, Noted, AcceptedIs, IndexCase, IndexIs}
 use Rattle.report.specs.Inner.{Room, slotShown, LocatedIs}
 use Rattle.report.specs.declared.answer.Checked.{Checked}
 use Rattle.report.specs.declared.answer.Checked.the-variants as Checked
 use Rattle.report.specs.declared.answer.Showing.{Showing}
 use Rattle.report.specs.declared.answer.Showing.the-variants as Showing
-use Rattle.report.specs.declared.answer.Valued.{Valued}
-use Rattle.report.specs.declared.answer.Valued.the-variants as Valued
 
 -- The answer to a check is what the report reads as.
-pub checked-is : {t : List ℕ} {first room : ℕ} {x : Index} {r : Checked} → IndexIs t first room x r → r ≡ checkedOf (read t)
+pub checked-is : {t : List ℕ} {first room : ℕ} {x : Index} {r : Checked} → IndexIs t first room x r → checkedPaper r ≡ checkedAnswer (read t)
 checked-is {t} {first} {room} {x} {r} i = go r (i .case)
   where
-    go : (r : Checked) → IndexCase t first room x r → r ≡ checkedOf (read t)
+    go : (r : Checked) → IndexCase t first room x r → checkedPaper r ≡ checkedAnswer (read t)
     go (Checked.Accepted k) a = rw (a .is, a .count)
     go (Checked.Refused y) e = rw e
 
@@ -59,14 +59,18 @@ refused-of i e = rw e at (i .case)
 
 -- ---- where a value lies
 
-at-refused : {z : Refusal} {start size : ℕ} → Showing.Refused z ≡ Showing.At start size → ⊥
+-- What gives a place is no refusal, and not "absent"; neither is "absent" a refusal.
+at-refused : {z : Paper} {place : ℕ × ℕ} → _≡_ {A = Answer (ℕ × ℕ)} (refusedBy z) (given place) → ⊥
 at-refused q = let z : _≡_ {A = ℕ} 0 1 = cc in omega arith
 
-at-absent : {start size : ℕ} → Showing.Absent ≡ Showing.At start size → ⊥
+at-absent : {place : ℕ × ℕ} → _≡_ {A = Answer (ℕ × ℕ)} absent (given place) → ⊥
 at-absent q = let z : _≡_ {A = ℕ} 0 1 = cc in omega arith
 
+absent-refused : {z : Paper} → _≡_ {A = Answer (ℕ × ℕ)} (refusedBy z) absent → ⊥
+absent-refused q = let z : _≡_ {A = ℕ} 0 1 = cc in omega arith
+
 pub located-refused : {t : List ℕ} {n e : ℕ} {z : Refusal} → read t ≡ refused z → LocatedIs t n e (Showing.Refused z)
-located-refused q = record { is = rw q; lies = λ s l g. absurd (at-refused g) }
+located-refused q = record { is = rw q; lies = λ s l g. absurd (at-refused (ap showingPaper g)) }
 
 -- A number outside 1 to k, and one inside.
 outside : (n k : ℕ) → (ltb n 1 || ltb k n) ≡ true → (leb 1 n && leb n k) ≡ false
@@ -89,13 +93,13 @@ element-low e h = omega (arith, inside e elements h)
 
 module _ {t : List ℕ} (n e : ℕ) {first : ℕ} {x : Index} {k : ℕ} (a : AcceptedIs t first 1 x k) where
   pub located-none : (ltb n 1 || ltb k n) ≡ true → {r : Showing} → r ≡ Showing.Refused (request NoObservation) → LocatedIs t n e r
-  located-none h q = record { is = rw (a .is, a .count, outside n k h) q; lies = λ s l g. absurd (at-refused (sym q ∙ g)) }
+  located-none h q = record { is = rw (a .is, a .count, outside n k h) (ap showingPaper q); lies = λ s l g. absurd (at-refused (ap showingPaper (sym q ∙ g))) }
 
   module _ (hn : (ltb n 1 || ltb k n) ≡ false) where
     pub located-no-element : (ltb e 1 || ltb elements e) ≡ true → {r : Showing} → r ≡ Showing.Refused (request NoElement) → LocatedIs t n e r
     located-no-element h q = record {
-      is = rw (a .is, a .count, inside-is n k (inside n k hn), outside e elements h) q;
-      lies = λ s l g. absurd (at-refused (sym q ∙ g));
+      is = rw (a .is, a .count, inside-is n k (inside n k hn), outside e elements h) (ap showingPaper q);
+      lies = λ s l g. absurd (at-refused (ap showingPaper (sym q ∙ g)));
     }
 
     module _ (he : (ltb e 1 || ltb elements e) ≡ false) (f : first ≡ n - 1) where
@@ -115,8 +119,8 @@ module _ {t : List ℕ} (n e : ℕ) {first : ℕ} {x : Index} {k : ℕ} (a : Acc
       unfolding slotShown
       located-noted {r} q = bools (isPresent (valueAt (a .rows) n e)) here gone
         where
-          known : showingOf (read t) (startsIn t) n e
-              ≡ cond (isPresent (valueAt (a .rows) n e)) (Showing.At (startAt (startsIn t) n e) (length (valueAt (a .rows) n e))) Showing.Absent
+          known : showingAnswer (read t) (startsIn t) n e
+              ≡ cond (isPresent (valueAt (a .rows) n e)) (given (startAt (startsIn t) n e, length (valueAt (a .rows) n e))) absent
           known = rw (a .is, a .count, inside-is n k (inside n k hn), inside-is e elements (inside e elements he))
 
           shown-known : shownOf (read t) n e ≡ valueAt (a .rows) n e
@@ -129,7 +133,7 @@ module _ {t : List ℕ} (n e : ℕ) {first : ℕ} {x : Index} {k : ℕ} (a : Acc
               let g : r ≡ Showing.At (startAt (startsIn t) n e) (length (valueAt (a .rows) n e)) =
               q ∙ rw (bit-is, p, s .start-is, s .length-is) in
               record {
-                is = rw (known, p) g;
+                is = rw (known, p) (ap showingPaper g);
                 lies = λ start size y.
                     let w : Showing.At (startAt (startsIn t) n e) (length (valueAt (a .rows) n e)) ≡ Showing.At start size = sym g ∙ y in
                     let w₀ : startAt (startsIn t) n e ≡ start = cc in
@@ -140,7 +144,7 @@ module _ {t : List ℕ} (n e : ℕ) {first : ℕ} {x : Index} {k : ℕ} (a : Acc
           gone : isPresent (valueAt (a .rows) n e) ≡ false → LocatedIs t n e r
           gone p =
               let g : r ≡ Showing.Absent = q ∙ rw (bit-is, p) in
-              record { is = rw (known, p) g; lies = λ start size y. absurd (at-absent (sym g ∙ y)) }
+              record { is = rw (known, p) (ap showingPaper g); lies = λ start size y. absurd (at-absent (ap showingPaper (sym g ∙ y))) }
 
 -- ---- what is shown
 
@@ -149,7 +153,7 @@ empty-of [] h = refl
 empty-of (b ∷ v) h = never (sym h)
 
 -- By the ways in which nothing can be shown.
-shown-empty : (o : Outcome) (p : List (List ℕ)) (n e : ℕ) → ((s l : ℕ) → showingOf o p n e ≡ Showing.At s l → ⊥) → [] ≡ shownOf o n e
+shown-empty : (o : Outcome) (p : List (List ℕ)) (n e : ℕ) → ((s l : ℕ) → showingAnswer o p n e ≡ given (s, l) → ⊥) → [] ≡ shownOf o n e
 shown-empty (refused z) p n e h = refl
 shown-empty (accepted os) p n e h =
     bools (isObservation os n)
@@ -161,8 +165,8 @@ shown-empty (accepted os) p n e h =
     (λ a. rw a)
 
 -- What an element is worth, by what is shown of it.
-present-valued : (o : Outcome) (p : List (List ℕ)) (n e start size : ℕ) → showingOf o p n e ≡ Showing.At start size
-    → cond (hasValue (e - 1)) (exact (valueOf (e - 1) (shownOf o n e))) Valued.NoValue ≡ valuedOf o n e
+present-valued : (o : Outcome) (p : List (List ℕ)) (n e start size : ℕ) → showingAnswer o p n e ≡ given (start, size)
+    → cond (hasValue (e - 1)) (given (exact (paperValue (valueOf (e - 1) (shownOf o n e))))) (given noValue) ≡ valuedAnswer o n e
 present-valued (refused z) p n e start size h = absurd (at-refused h)
 present-valued (accepted os) p n e start size h =
     bools (isObservation os n)
@@ -171,10 +175,7 @@ present-valued (accepted os) p n e start size h =
     (λ b. absurd (at-refused (rw (a, b) at h))))
     (λ a. absurd (at-refused (rw a at h)))
 
-absent-refused : {z : Refusal} → Showing.Refused z ≡ Showing.Absent → ⊥
-absent-refused q = let z : _≡_ {A = ℕ} 0 1 = cc in omega arith
-
-absent-valued : (o : Outcome) (p : List (List ℕ)) (n e : ℕ) → showingOf o p n e ≡ Showing.Absent → cond (hasValue (e - 1)) Valued.Absent Valued.NoValue ≡ valuedOf o n e
+absent-valued : (o : Outcome) (p : List (List ℕ)) (n e : ℕ) → showingAnswer o p n e ≡ absent → cond (hasValue (e - 1)) absent (given noValue) ≡ valuedAnswer o n e
 absent-valued (refused z) p n e h = absurd (absent-refused h)
 absent-valued (accepted os) p n e h =
     bools (isObservation os n)
@@ -183,19 +184,23 @@ absent-valued (accepted os) p n e h =
     (λ b. absurd (absent-refused (rw (a, b) at h))))
     (λ a. absurd (absent-refused (rw a at h)))
 
-same-refusal : {y z : Refusal} → Showing.Refused y ≡ Showing.Refused z → z ≡ y
+same-refusal : {y z : Paper} → _≡_ {A = Answer (ℕ × ℕ)} (refusedBy y) (refusedBy z) → z ≡ y
 same-refusal q = cc
 
-refused-valued : (o : Outcome) (p : List (List ℕ)) (n e : ℕ) (z : Refusal) → showingOf o p n e ≡ Showing.Refused z → Valued.Refused z ≡ valuedOf o n e
-refused-valued (refused y) p n e z h = ap Valued.Refused (same-refusal h)
+refused-valued : (o : Outcome) (p : List (List ℕ)) (n e : ℕ) (z : Paper) → showingAnswer o p n e ≡ refusedBy z → refusedBy z ≡ valuedAnswer o n e
+refused-valued (refused y) p n e z h = ap refusedBy (same-refusal h)
 refused-valued (accepted os) p n e z h =
     bools (isObservation os n)
     (λ a. bools (isElement e)
     (λ b. bools (isPresent (valueAt os n e)) (λ c. absurd (at-refused (sym (rw (a, b, c) at h)))) (λ c. absurd (absent-refused (sym (rw (a, b, c) at h)))))
-    (λ b. rw (a, b) (ap Valued.Refused (same-refusal (rw (a, b) at h)))))
-    (λ a. rw a (ap Valued.Refused (same-refusal (rw a at h))))
+    (λ b. rw (a, b) (ap refusedBy (same-refusal (rw (a, b) at h)))))
+    (λ a. rw a (ap refusedBy (same-refusal (rw a at h))))
 
 module _ {t : List ℕ} {n e : ℕ} {r : Showing} (i : LocatedIs t n e r) where
+  -- What is shown, by the answer.
+  answered : {s : Showing} → r ≡ s → showingAnswer (read t) (startsIn t) n e ≡ showingPaper s
+  answered q = sym (i .is) ∙ ap showingPaper q
+
   pub shown-at : {start size : ℕ} → r ≡ Showing.At start size → (start + size ≤ length t) × (take (start + size - start) (drop start t) ≡ shownOf (read t) n e)
   shown-at {start} {size} q =
       let c : start + size - start ≡ size = omega arith in
@@ -203,21 +208,22 @@ module _ {t : List ℕ} {n e : ℕ} {r : Showing} (i : LocatedIs t n e r) where
       (l .0, rw c (l .1))
 
   pub shown-absent : r ≡ Showing.Absent → [] ≡ shownOf (read t) n e
-  shown-absent q = shown-empty (read t) (startsIn t) n e (λ s l g. at-absent (sym q ∙ (i .is ∙ g)))
+  shown-absent q = shown-empty (read t) (startsIn t) n e (λ s l g. at-absent (sym (answered q) ∙ g))
 
   pub shown-refused : {z : Refusal} → r ≡ Showing.Refused z → [] ≡ shownOf (read t) n e
-  shown-refused q = shown-empty (read t) (startsIn t) n e (λ s l g. at-refused (sym q ∙ (i .is ∙ g)))
+  shown-refused q = shown-empty (read t) (startsIn t) n e (λ s l g. at-refused (sym (answered q) ∙ g))
 
   -- ---- what it is worth
 
-  pub value-at : {start size : ℕ} → r ≡ Showing.At start size → {a : Valued}
-      → a ≡ cond (hasValue (e - 1)) (exact (valueOf (e - 1) (take (start + size - start) (drop start t)))) Valued.NoValue → a ≡ valuedOf (read t) n e
+  pub value-at : {start size : ℕ} → r ≡ Showing.At start size → {a : Answer Exact}
+      → a ≡ cond (hasValue (e - 1)) (given (exact (paperValue (valueOf (e - 1) (take (start + size - start) (drop start t)))))) (given noValue)
+      → a ≡ valuedAnswer (read t) n e
   value-at {start} {size} q {a} w =
-      w ∙ (ap (λ (v : List ℕ). cond (hasValue (e - 1)) (exact (valueOf (e - 1) v)) Valued.NoValue) (shown-at q .1)
-      ∙ present-valued (read t) (startsIn t) n e start size (sym (i .is) ∙ q))
+      w ∙ (ap (λ (v : List ℕ). cond (hasValue (e - 1)) (given (exact (paperValue (valueOf (e - 1) v)))) (given noValue)) (shown-at q .1)
+      ∙ present-valued (read t) (startsIn t) n e start size (answered q))
 
-  pub value-absent : r ≡ Showing.Absent → {a : Valued} → a ≡ cond (hasValue (e - 1)) Valued.Absent Valued.NoValue → a ≡ valuedOf (read t) n e
-  value-absent q w = w ∙ absent-valued (read t) (startsIn t) n e (sym (i .is) ∙ q)
+  pub value-absent : r ≡ Showing.Absent → {a : Answer Exact} → a ≡ cond (hasValue (e - 1)) absent (given noValue) → a ≡ valuedAnswer (read t) n e
+  value-absent q w = w ∙ absent-valued (read t) (startsIn t) n e (answered q)
 
-  pub value-refused : {z : Refusal} → r ≡ Showing.Refused z → Valued.Refused z ≡ valuedOf (read t) n e
-  value-refused {z} q = refused-valued (read t) (startsIn t) n e z (sym (i .is) ∙ q)
+  pub value-refused : {z : Refusal} → r ≡ Showing.Refused z → refusedBy (paper z) ≡ valuedAnswer (read t) n e
+  value-refused {z} q = refused-valued (read t) (startsIn t) n e (paper z) (answered q)

@@ -3,6 +3,7 @@ pub mod ColumnLaws
 pub mod Computed
 pub mod Join
 pub mod LineSteps
+pub mod OneAnswer
 pub mod ReaderLaws
 pub mod RowLaws
 pub mod Shams

@@ -18,7 +18,7 @@ use Rattle.element.specs.Table.{elements}
 use Rattle.element.specs.Observation.{Observation, isPresent, setOf, isWgs84, isEarth, setFault}
 use Rattle.report.specs.Report.{State, Step, next, row, bad, columnsFrom, fieldFault, rowOf, dataLine, other, step, read, rowLimit}
 use Rattle.report.specs.Starts.{startsOf, startsIn}
-use Rattle.report.specs.Answers.{shownOf, showingOf}
+use Rattle.report.specs.Answers.{shownOf, showingPaper, showingAnswer}
 use Rattle.report.specs.Index.{Index, Shows, Noted}
 use Rattle.report.specs.declared.answer.Checked.{Checked}
 use Rattle.report.specs.declared.answer.Checked.the-variants as Checked
@@ -227,5 +227,5 @@ slotShown sets starts lengths e =
 
 -- Where a value lies, and that it lies there.
 pub record LocatedIs (t : List ℕ) (n e : ℕ) (r : Showing) : Type 0 where
-  pub is : r ≡ showingOf (read t) (startsIn t) n e
+  pub is : showingPaper r ≡ showingAnswer (read t) (startsIn t) n e
   pub lies : (start size : ℕ) → r ≡ Showing.At start size → (start + size ≤ length t) × (take size (drop start t) ≡ shownOf (read t) n e)

@@ -1,4 +1,7 @@
 use mathlib.Core.Path.{sym, ap, _∙_}
+use Rattle.refusal.specs.Paper.{given}
+use Rattle.value.specs.Paper.{paperValue}
+use Rattle.value.specs.declared.Value.{Value}
 use Rattle.report.specs.Answers.{exact}
 use borrow.Author.Needs.{needs}
 use Rattle.report.proofs.place.valued.Statement.{statement}
@@ -14,7 +17,7 @@ worth-requires : tie.Need-worth-requires
 worth-requires c κs = search needs
 
 returns : tie.Need-returns
-returns c = rw (sym (c .before .before .before .has-value .ensures) ∙ c .before .before .if1 .taken) (c .worth .ensures ∙ ap exact (c .before .value .ensures))
+returns c = rw (sym (c .before .before .before .has-value .ensures) ∙ c .before .before .if1 .taken) (c .worth .ensures ∙ ap (λ (v : Value). given (exact (paperValue v))) (c .before .value .ensures))
 
 returns-2 : tie.Need-returns-2
 returns-2 c = rw (sym (c .before .has-value .ensures) ∙ c .if1 .left)

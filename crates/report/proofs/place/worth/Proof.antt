@@ -25,10 +25,10 @@ enum-known-value-4 : tie.Need-enum-known-value-4
 enum-known-value-4 c = search needs
 
 returns : tie.Need-returns
-returns c = search needs
+returns c = rw (c .enum-told .given .1)
 
 returns-2 : tie.Need-returns-2
-returns-2 c = search needs
+returns-2 c = rw (c .enum-told2 .given .1)
 
 returns-3 : tie.Need-returns-3
 returns-3 c = let e : toZ w64 (ofZ w64 (c .before .value .given .0 .0)) ≡ c .before .value .given .0 .0 = toZ-ofZ (record { sfits = c .known-told .given .0 .1 }) in rw (e, c .before .value .given .1)
