@@ -1,6 +1,7 @@
--- The promise settles the answer and the output.
+-- The promise settles the answer and the output, and shuts out the shams.
 pub mod Unique
 pub mod Settled
+pub mod Shams
 -- Writing into the rest of the lent output.
 pub mod WritingLaws
 pub mod FieldLaws

@@ -5,6 +5,7 @@ use mathlib.Core.List.{List}
 use native.Mathlib.Omega.{arith}
 use lib.ListN.{length, take}
 use borrow.Author.Tests.{le-leb, lt-leb}
+use Rattle.refusal.specs.Paper.{paper, Answer, refusedBy, given}
 use Rattle.refusal.specs.declared.Kind.the-variants.{OutputTooShort}
 use Rattle.refusal.specs.declared.Refusal.{Refusal}
 use Rattle.text.proofs.Outputs.{put-room, put-none}
@@ -16,22 +17,20 @@ use Rattle.layout.specs.Written.{written}
 use Rattle.cuts.specs.declared.Plan.{Plan}
 use Rattle.pack.specs.Promise.{PackedInto, PackPromised}
 use Rattle.pack.specs.Inner.{observed, Wrote, BlocksAsk, CutIs, PlannedIs}
-use Rattle.pack.specs.declared.Packed.{Packed}
-use Rattle.pack.specs.declared.Packed.the-variants as Packed
 use Rattle.pack.specs.declared.plan.Planned.{Planned}
 use Rattle.pack.specs.declared.plan.Planned.the-variants as Planned
 
 -- The promise of an accepted report, and of a refused one.
-pub promised-accepted : {report before after : List ℕ} {answer : Packed} {L : List Observation} → read report ≡ accepted L
+pub promised-accepted : {report before after : List ℕ} {answer : Answer ℕ} {L : List Observation} → read report ≡ accepted L
     → PackedInto L before after answer → PackPromised report before after answer
 promised-accepted e p = record { case = rw e p }
 
-pub promised-refused : (report output : List ℕ) (refusal : Refusal) → read report ≡ refused refusal → PackPromised report output output (Packed.Refused refusal)
+pub promised-refused : (report output : List ℕ) (refusal : Refusal) → read report ≡ refused refusal → PackPromised report output output (refusedBy (paper refusal))
 promised-refused report output refusal e = record { case = rw e (record { answer-is = refl; output-is = refl }) }
 
 -- By what planning answered.
 pub planned-refused : {report : List ℕ} {index : Index} {cuts : List ℕ} {planned : Planned} {refusal : Refusal} (output : List ℕ)
-    → PlannedIs report index cuts planned → planned ≡ Planned.Refused refusal → PackPromised report output output (Packed.Refused refusal)
+    → PlannedIs report index cuts planned → planned ≡ Planned.Refused refusal → PackPromised report output output (refusedBy (paper refusal))
 planned-refused {report} {refusal = refusal} output p e = promised-refused report output refusal (rw e at (p .case))
 
 pub planned-cut : {report : List ℕ} {index : Index} {cuts : List ℕ} {planned : Planned} {plan : Plan} → PlannedIs report index cuts planned
@@ -40,7 +39,7 @@ planned-cut p e = rw e at (p .case)
 
 module _ {report : List ℕ} {index : Index} {cuts : List ℕ} {plan : Plan} (c : CutIs report index cuts plan) (output : List ℕ) where
   -- The output is shorter than the packed report.
-  pub plan-short : length output < plan .bytes → PackPromised report output output (Packed.Refused (request OutputTooShort))
+  pub plan-short : length output < plan .bytes → PackPromised report output output (refusedBy (paper (request OutputTooShort)))
   plan-short h =
       let text : List ℕ = written (take (plan .blocks) cuts) (observed report) in
       let k : length output < length text = omega (arith, c .bytes-are) in
@@ -61,12 +60,12 @@ module _ {report : List ℕ} {index : Index} {cuts : List ℕ} {plan : Plan} (c 
 
     -- It is written.
     pub plan-written : {after : List ℕ} {n : ℕ} → Wrote (written (take (plan .blocks) cuts) (observed report)) output after n
-        → PackPromised report output after (Packed.Length n)
+        → PackPromised report output after (given n)
     plan-written w =
         let text : List ℕ = written (take (plan .blocks) cuts) (observed report) in
         promised-accepted (c .is) (record {
           text = text;
           packed = c .packed;
-          answer-is = rw (le-leb (length text) (length output) room) (ap Packed.Length (w .answer-is));
+          answer-is = rw (le-leb (length text) (length output) room) (ap given (w .answer-is));
           output-is = w .output-is ∙ sym (put-room text output room .1);
         })
