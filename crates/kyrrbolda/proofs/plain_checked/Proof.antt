@@ -1,5 +1,3 @@
-use mathlib.Core.Path.{sym, ap}
-use Rattle.kyrrbolda.specs.Plain.{plainChecked}
 use borrow.Author.Needs.{needs}
 use Rattle.kyrrbolda.proofs.plain_checked.Statement.{statement}
 use Rattle.kyrrbolda.proofs.plain_checked.Tie as tie
@@ -14,10 +12,10 @@ number-requires : tie.Need-number-requires
 number-requires c κs = search needs
 
 returns : tie.Need-returns
-returns c = sym (ap plainChecked (c .before .answer .given .1))
+returns c = rw (c .before .answer .given .1)
 
 returns-2 : tie.Need-returns-2
-returns-2 c = rw (c .number .ensures) (sym (ap plainChecked (c .before .before .answer2 .given .1)))
+returns-2 c = rw (c .number .ensures, c .before .before .answer2 .given .1)
 
 pub plain-checked-spec : {M : Type 1} → statement M
 plain-checked-spec =

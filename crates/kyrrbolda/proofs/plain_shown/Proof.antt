@@ -1,5 +1,3 @@
-use mathlib.Core.Path.{sym, ap}
-use Rattle.kyrrbolda.specs.Plain.{plainShown}
 use borrow.Author.Needs.{needs}
 use Rattle.kyrrbolda.proofs.plain_shown.Statement.{statement}
 use Rattle.kyrrbolda.proofs.plain_shown.Tie as tie
@@ -17,13 +15,13 @@ number-requires : tie.Need-number-requires
 number-requires c κs = search needs
 
 returns : tie.Need-returns
-returns c = sym (ap plainShown (c .before .answer .given .1))
+returns c = rw (c .before .answer .given .1)
 
 returns-2 : tie.Need-returns-2
-returns-2 c = sym (ap plainShown (c .enum-told .given .1))
+returns-2 c = rw (c .enum-told .given .1)
 
 returns-3 : tie.Need-returns-3
-returns-3 c = rw (c .number .ensures) (sym (ap plainShown (c .before .before .answer2 .given .1)))
+returns-3 c = rw (c .number .ensures, c .before .before .answer2 .given .1)
 
 pub plain-shown-spec : {M : Type 1} → statement M
 plain-shown-spec =

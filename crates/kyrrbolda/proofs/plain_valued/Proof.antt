@@ -1,7 +1,6 @@
 use mir.Facts.{toZ-ofZ}
 use Rattle.kyrrbolda.specs.Plain.{valuedAs}
-use mathlib.Core.Path.{sym, ap, _∙_}
-use Rattle.kyrrbolda.specs.Plain.{plainValued}
+use mathlib.Core.Path.{ap, _∙_}
 use borrow.Author.Needs.{needs}
 use Rattle.kyrrbolda.proofs.plain_valued.Statement.{statement}
 use Rattle.kyrrbolda.proofs.plain_valued.Tie as tie
@@ -49,25 +48,25 @@ number-requires : tie.Need-number-requires
 number-requires c κs = search needs
 
 returns : tie.Need-returns
-returns c = c .valued-as .ensures ∙ sym (ap plainValued (c .before .enum-told .given .1))
+returns c = rw (c .before .enum-told .given .1) (c .valued-as .ensures)
 
 returns-2 : tie.Need-returns-2
-returns-2 c = c .valued-as2 .ensures ∙ sym (ap plainValued (c .before .enum-told2 .given .1))
+returns-2 c = rw (c .before .enum-told2 .given .1) (c .valued-as2 .ensures)
 
 returns-3 : tie.Need-returns-3
-returns-3 c = c .valued-as3 .ensures ∙ ap (λ z. valuedAs 2 z 0) (toZ-ofZ (record { sfits = c .before .known-told .given .0 .1 })) ∙ sym (ap plainValued (c .before .before .answer .given .1))
+returns-3 c = rw (c .before .before .answer .given .1) (c .valued-as3 .ensures ∙ ap (λ z. valuedAs 2 z 0) (toZ-ofZ (record { sfits = c .before .known-told .given .0 .1 })))
 
 returns-4 : tie.Need-returns-4
-returns-4 c = c .valued-as4 .ensures ∙ ap (λ z. valuedAs 3 z (c .before .before .answer2 .given .0 .1 .0)) (toZ-ofZ (record { sfits = c .before .known-told2 .given .0 .1 })) ∙ sym (ap plainValued (c .before .before .answer2 .given .1))
+returns-4 c = rw (c .before .before .answer2 .given .1) (c .valued-as4 .ensures ∙ ap (λ z. valuedAs 3 z (c .before .before .answer2 .given .0 .1 .0)) (toZ-ofZ (record { sfits = c .before .known-told2 .given .0 .1 })))
 
 returns-5 : tie.Need-returns-5
-returns-5 c = c .valued-as5 .ensures ∙ ap (λ z. valuedAs 4 z (c .before .before .answer3 .given .0 .1 .0)) (toZ-ofZ (record { sfits = c .before .known-told3 .given .0 .1 })) ∙ sym (ap plainValued (c .before .before .answer3 .given .1))
+returns-5 c = rw (c .before .before .answer3 .given .1) (c .valued-as5 .ensures ∙ ap (λ z. valuedAs 4 z (c .before .before .answer3 .given .0 .1 .0)) (toZ-ofZ (record { sfits = c .before .known-told3 .given .0 .1 })))
 
 returns-6 : tie.Need-returns-6
-returns-6 c = c .valued-as6 .ensures ∙ ap (λ z. valuedAs 5 z 0) (toZ-ofZ (record { sfits = c .before .known-told4 .given .0 .1 })) ∙ sym (ap plainValued (c .before .before .answer4 .given .1))
+returns-6 c = rw (c .before .before .answer4 .given .1) (c .valued-as6 .ensures ∙ ap (λ z. valuedAs 5 z 0) (toZ-ofZ (record { sfits = c .before .known-told4 .given .0 .1 })))
 
 returns-7 : tie.Need-returns-7
-returns-7 c = rw (c .number .ensures) (sym (ap plainValued (c .before .before .answer5 .given .1)))
+returns-7 c = rw (c .number .ensures, c .before .before .answer5 .given .1)
 
 pub plain-valued-spec : {M : Type 1} → statement M
 plain-valued-spec =
