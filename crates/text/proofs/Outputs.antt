@@ -1,13 +1,13 @@
 -- Laws of texts laid over the start of an output, and of numbers as bytes.
-use Prim.Native.Nat.{ℕ, zero, suc, _+_, _-_, _*_, _^_, _≤_, _<_}
+use Prim.Native.Nat.{ℕ, zero, suc, _+_, _-_, _*_, _/_, _%_, _^_, _≤_, _<_}
 use mathlib.Core.Path.{_≡_, refl, sym, ap, _∙_}
 use mathlib.Core.List.{List, [], _∷_, _++_, append-assoc, append-nil}
-use native.Mathlib.Nat.{pow-suc, pow-le-pow-right}
+use native.Mathlib.Nat.{pow-suc, pow-le-pow-right, sub-zero}
 use lib.Dec.{lit<}
 use native.Mathlib.Numerals.{add-one}
 use native.Mathlib.Omega.{arith}
-use lib.ListN.{length, take, drop, set, getD, length-append, length-drop, drop-of-length-le}
-use lib.Seq.{take-at, drop-at, take-all, drop-drop, set-at, drop-cons, take-length}
+use lib.ListN.{length, take, drop, set, getD, length-append, length-drop, length-take, length-set, drop-of-length-le}
+use lib.Seq.{drop-length, take-at, drop-at, take-all, take-take, drop-drop, set-at, drop-cons, take-suc, take-length}
 use borrow.Author.Tests.{le-leb, lt-leb}
 use Rattle.text.specs.Output.{over, putOver, putLength, lowBytes, spelt}
 
@@ -62,31 +62,92 @@ copied xs d e n h en ee =
     let p = put-room xs d h in
     (en ∙ sym (p .0), ee ∙ ap (λ (l : List ℕ). l ++ drop (length xs) d) (take-length xs) ∙ sym (p .1))
 
--- One byte more of a number.
-pub spelt-step : (s : List ℕ) (i n : ℕ) → spelt (take (suc n) (drop i s)) ≡ getD s i 0 + 256 * spelt (take n (drop (suc i) s))
-unfolding spelt
-spelt-step [] zero zero = refl
-spelt-step [] zero (suc n) = refl
-spelt-step [] (suc i) zero = refl
-spelt-step [] (suc i) (suc n) = refl
-spelt-step (b ∷ s) zero n = refl
-spelt-step (b ∷ s) (suc i) n = spelt-step s i n
+-- A number has as many first bytes as are asked for.
+pub low-count : (count number : ℕ) → length (lowBytes count number) ≡ count
+unfolding lowBytes
+low-count zero number = refl
+low-count (suc count) number = ap suc (low-count count (number / 256))
+
+-- The first bytes of a number are being written, and the loop stands at i: those before i are over the start of the output,
+-- and those from i on are the first bytes of what is left of the number.
+pub record Lowering (count number : ℕ) (output₀ output : List ℕ) (rest i : ℕ) : Type 0 where
+  pub within : i ≤ count
+  pub sized : length output ≡ length output₀
+  pub written : output ≡ over (take i (lowBytes count number)) output₀
+  pub left : drop i (lowBytes count number) ≡ lowBytes (count - i) rest
+
+module _ (count number : ℕ) (output₀ : List ℕ) where
+  pub low-start : Lowering count number output₀ output₀ number 0
+  unfolding over
+  low-start = record { within = omega arith; sized = refl; written = refl; left = rw sub-zero }
+
+  module _ (output : List ℕ) (rest i : ℕ) (v : Lowering count number output₀ output rest i) (room : count ≤ length output₀) where
+    -- One byte more.
+    pub low-on : i < count → Lowering count number output₀ (set output i (rest % 256)) (rest / 256) (i + 1)
+    unfolding lowBytes
+    low-on h =
+        let all : List ℕ = lowBytes count number in
+        let long = low-count count number in
+        let inside : i < length all = omega arith in
+        let more : count - i ≡ suc (count - (i + 1)) = omega arith in
+        let next : getD all i 0 ∷ drop (suc i) all ≡ rest % 256 ∷ lowBytes (count - (i + 1)) (rest / 256) =
+        sym (drop-cons all i 0 inside) ∙ (rw more at (v .left)) in
+        let byte : getD all i 0 ≡ rest % 256 = cc in
+        record {
+          within = omega arith;
+          sized = length-set output i (rest % 256) ∙ v .sized;
+          written =
+              ap (λ (l : List ℕ). set l i (rest % 256)) (v .written)
+              ∙ over-set (take i all) output₀ (rest % 256) i (omega (arith, length-take i all)) (omega arith)
+              ∙ ap (λ (l : List ℕ). over l output₀) (rw (add-one, take-suc all i 0 inside, byte));
+          left = ap (λ (k : ℕ). drop k all) (add-one i) ∙ cc;
+        }
+
+    -- All are written.
+    pub low-end : count ≤ i → (count ≡ putLength (lowBytes count number) output₀) × (output ≡ putOver (lowBytes count number) output₀)
+    low-end h =
+        let all : List ℕ = lowBytes count number in
+        let long = low-count count number in
+        let put = put-room all output₀ (omega arith) in
+        (omega (arith, put .0), v .written ∙ ap (λ (l : List ℕ). over l output₀) (take-all i all (omega arith)) ∙ sym (put .1))
+
+-- There is no room for them.
+pub low-none : (count number : ℕ) (output : List ℕ) → length output < count
+    → (0 ≡ putLength (lowBytes count number) output) × (output ≡ putOver (lowBytes count number) output)
+low-none count number output h =
+    let put = put-none (lowBytes count number) output (omega (arith, low-count count number)) in (sym (put .0), sym (put .1))
 
 -- Seven bytes are below a power of 256.
-pub low-small : (i : ℕ) → 0 < i → 256 ^ (8 - i) ≤ 72057594037927936
-low-small i h = pow-le-pow-right {n = 256} (lit< tt) {i = 8 - i} {j = 7} (omega arith)
+pub low-small : (size i : ℕ) → 0 < i → size ≤ 8 → 256 ^ (size - i) ≤ 72057594037927936
+low-small size i h k = pow-le-pow-right {n = 256} (lit< tt) {i = size - i} {j = 7} (omega arith)
 
--- One turn of a loop that reads eight bytes, from the last to the first.
-pub low-step : (s : List ℕ) (i n b : ℕ) → 0 < i → i ≤ 8 → n < 256 ^ (8 - i) → n ≡ spelt (take (8 - i) (drop i s)) → b ≡ getD s (i - 1) 0 → b < 256
-    → (i - 1 ≤ 8) × (n * 256 + b < 256 ^ (8 - (i - 1))) × (n * 256 + b ≡ spelt (take (8 - (i - 1)) (drop (i - 1) s)))
-low-step s zero n b h k small is eb lb = absurd (omega arith)
-low-step s (suc i) n b h k small is eb lb =
-    let e : 8 - (suc i - 1) ≡ suc (8 - suc i) = omega arith in
+-- The start of a loop that reads bytes from the last to the first.
+pub spelt-start : (s : List ℕ) → (length s ≤ length s) × (0 < 256 ^ (length s - length s)) × (0 ≡ spelt (drop (length s) s))
+unfolding spelt
+spelt-start s = let e : length s - length s ≡ 0 = omega arith in (omega arith, rw e (omega arith), rw (drop-length s))
+
+-- One turn of it.
+pub spelt-on : (s : List ℕ) (i n b : ℕ) → 0 < i → i ≤ length s → n < 256 ^ (length s - i) → n ≡ spelt (drop i s) → b ≡ getD s (i - 1) 0 → b < 256
+    → (i - 1 ≤ length s) × (n * 256 + b < 256 ^ (length s - (i - 1))) × (n * 256 + b ≡ spelt (drop (i - 1) s))
+unfolding spelt
+spelt-on s zero n b h k small is eb lb = absurd (omega arith)
+spelt-on s (suc i) n b h k small is eb lb =
+    let e : length s - (suc i - 1) ≡ suc (length s - suc i) = omega arith in
     let f : suc i - 1 ≡ i = omega arith in
     let g : b ≡ getD s i 0 = rw f at eb in
-    (omega arith, rw (e, pow-suc) (omega arith), rw (e, f) (omega (arith, spelt-step s i (8 - suc i))))
+    (omega arith, rw (e, pow-suc) (omega arith), rw (f, drop-cons s i 0 (omega arith)) (omega arith))
 
--- What was stored in eight bytes is read back.
-pub spelt-low : (x : ℕ) → x < 2 ^ 64 → spelt (lowBytes 8 x) ≡ x
+-- A number below that power of 256 is spelt by its first bytes.
+pub spelt-low : (count number : ℕ) → number < 256 ^ count → spelt (lowBytes count number) ≡ number
 unfolding spelt lowBytes
-spelt-low x h = omega arith
+spelt-low zero number h = omega arith
+spelt-low (suc count) number h = omega (arith, spelt-low count (number / 256) (omega (arith, rw pow-suc at h)))
+
+-- What was written in at most eight bytes is read back.
+pub low-back : (count number : ℕ) (output : List ℕ) → count ≤ 8 → number < 256 ^ count → count ≤ length output
+    → spelt (take count (take 8 (putOver (lowBytes count number) output))) ≡ number
+unfolding over
+low-back count number output few small room =
+    let long = low-count count number in
+    rw (put-room (lowBytes count number) output (omega arith) .1, take-take count 8 _ few, take-at (lowBytes count number) _ count long)
+    (spelt-low count number small)

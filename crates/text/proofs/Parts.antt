@@ -5,8 +5,9 @@ use mathlib.Core.Bool.{true, false}
 use mathlib.Core.List.{List, [], _∷_}
 use native.Mathlib.Nat.{not-suc-le-zero, le-of-suc-le-suc, le-of-eq}
 use native.Mathlib.Numerals.{add-one}
+use native.Mathlib.Omega.{arith}
 use lib.Dec.{eqb}
-use lib.ListN.{length, getD, take, drop, length-drop, drop-of-length-le}
+use lib.ListN.{length, getD, take, drop, length-take, length-drop, drop-of-length-le}
 use lib.Seq.{drop-cons, take-all}
 use borrow.Author.Tests.{eqb-true, eq-eqb, ne-eqb}
 use Rattle.text.specs.Part.{same, matches, starts}
@@ -21,6 +22,10 @@ pub take-below : (n : ℕ) (s : List ℕ) → length (take n s) ≤ n
 take-below zero s = zero-le
 take-below (suc n) [] = zero-le
 take-below (suc n) (x ∷ s) = suc-le-suc (take-below n s)
+
+-- Nor are more than n of the first n.
+pub take-take-below : (m n : ℕ) (s : List ℕ) → length (take m (take n s)) ≤ n
+take-take-below m n s = omega (arith, length-take m (take n s), take-below n s)
 
 -- A text is the same as itself.
 pub same-refl : (s : List ℕ) → same s s ≡ true

@@ -1,59 +1,55 @@
--- `text::output::put_low` meets its contract.
+-- `text::output::put_low` meets its contract. The bytes before i are written, and those from i on are those of what is left of the number.
+use Prim.Native.Nat.{_-_}
 use borrow.Author.Needs.{needs}
+use Rattle.text.proofs.Outputs.{Lowering, low-start, low-on, low-end, low-none}
 use Rattle.text.proofs.output.put_low.Statement.{statement}
-use Rattle.text.specs.Output.{lowBytes}
 use Rattle.text.proofs.output.put_low.Tie as tie
 
-cast-t12 : tie.Need-cast-t12
-cast-t12 c = search needs
+abbrev Inv-loop : tie.InvT-loop
+Inv-loop number count output₀ rest₀ i₀ output rest i = Lowering count number output₀ output rest i
 
-cast-t14 : tie.Need-cast-t14
-cast-t14 c = search needs
+abbrev μ-loop : tie.MeasureT-loop
+μ-loop number count output₀ rest₀ i₀ output rest i = count - i
 
-cast-t16 : tie.Need-cast-t16
-cast-t16 c = search needs
+returns : tie.Need-returns Inv-loop μ-loop
+returns c = low-none _ _ _ (c .if1 .taken)
 
-cast-t18 : tie.Need-cast-t18
-cast-t18 c = search needs
+loop-holds : tie.Need-loop-holds Inv-loop μ-loop
+loop-holds c = low-start _ _ _
 
-cast-t20 : tie.Need-cast-t20
-cast-t20 c = search needs
+cast-output : tie.Need-cast-output Inv-loop μ-loop
+cast-output c = search needs
 
-cast-t22 : tie.Need-cast-t22
-cast-t22 c = search needs
+slice-write-output : tie.Need-slice-write-output Inv-loop μ-loop
+slice-write-output c = search needs
 
-cast-t24 : tie.Need-cast-t24
-cast-t24 c = search needs
+add-i : tie.Need-add-i Inv-loop μ-loop
+add-i c = search needs
 
-cast-t26 : tie.Need-cast-t26
-cast-t26 c = search needs
+loop-less : tie.Need-loop-less Inv-loop μ-loop
+loop-less c = search needs
 
-slice-aggregate-put : tie.Need-slice-aggregate-put
-slice-aggregate-put c = search needs
+loop-again : tie.Need-loop-again Inv-loop μ-loop
+loop-again c = low-on _ _ _ _ _ _ (c .before .loop .inv) (search needs) (c .loop-test .taken)
 
-put-requires : tie.Need-put-requires
-put-requires c κs = search needs
+same-length : tie.Need-same-length Inv-loop μ-loop
+same-length c = c .before .loop .inv .sized
 
-same-length : tie.Need-same-length
-same-length c = search needs
-
-returns : tie.Need-returns
-unfolding lowBytes
-returns c = c .before .before .put .ensures
+returns-2 : tie.Need-returns-2 Inv-loop μ-loop
+returns-2 c = low-end _ _ _ _ _ _ (c .before .loop .inv) (search needs) (c .loop-test .left)
 
 pub put-low-spec : {M : Type 1} → statement M
 put-low-spec =
     tie.close
     (tie.spec
-    cast-t12
-    cast-t14
-    cast-t16
-    cast-t18
-    cast-t20
-    cast-t22
-    cast-t24
-    cast-t26
-    slice-aggregate-put
-    put-requires
+    Inv-loop
+    μ-loop
+    returns
+    loop-holds
+    cast-output
+    slice-write-output
+    add-i
+    loop-less
+    loop-again
     same-length
-    returns)
+    returns-2)
