@@ -11,7 +11,7 @@ use native.Mathlib.Numerals.{add-one}
 use native.Mathlib.Omega.{arith}
 use native.Mathlib.Nat.{add-zero, sub-zero, zero-sub, suc-sub-suc}
 use Rattle.text.proofs.Bools.{bools, both, neither}
-use Rattle.text.specs.Lines.{isPrintable, printable, upTo, firstLine, Lines, end, cut, line, lines, fields, into, leadingBlanks, dropLead, dropTrail, trim, fieldFrom, TrimmedIs, FieldAt, ScannedIs}
+use Rattle.text.specs.Lines.{isPrintable, printable, upTo, firstLine, Lines, end, cut, line, lines, fields, into, leadingBlanks, dropLead, before, dropTrail, trim, fieldFrom, TrimmedIs, FieldAt, ScannedIs}
 use Rattle.text.specs.Steps.{barsIn, holds, isTight, Scanning}
 
 pub upTo-le : (m : ℕ) (s : List ℕ) → upTo m s ≤ length s
@@ -252,6 +252,9 @@ trail-other [] b n = rw (ne-eqb _ _ n)
 trail-other (x ∷ []) b n = rw (trail-other [] b n)
 trail-other (x ∷ y ∷ t) b n = rw (trail-other (y ∷ t) b n)
 
+length-of-take : (n : ℕ) (s : List ℕ) → n ≤ length s → length (take n s) ≡ n
+length-of-take n s h = omega (arith, length-take n s)
+
 take-last : (s : List ℕ) (e : ℕ) → 0 < e → e ≤ length s → take e s ≡ take (e - 1) s ++ (getD s (e - 1) 0 ∷ [])
 take-last s e p h =
     let q : e ≡ suc (e - 1) = omega arith in ap (λ (k : ℕ). take k s) q ∙ take-suc s (e - 1) 0 (omega arith)
@@ -260,11 +263,23 @@ module _ (s : List ℕ) (e : ℕ) (inv : dropTrail s ≡ dropTrail (take e s)) w
   pub trail-on : 0 < e → e ≤ length s → getD s (e - 1) 0 ≡ 32 → dropTrail s ≡ dropTrail (take (e - 1) s)
   trail-on p h q = inv ∙ rw (take-last s e p h, trail-blank _ _ q)
 
-  pub trail-here : 0 < e → e ≤ length s → (getD s (e - 1) 0 ≡ 32 → ⊥) → take e s ≡ dropTrail s
-  trail-here p h n = rw (inv, take-last s e p h, trail-other _ _ n)
+  trail-bytes : 0 < e → e ≤ length s → (getD s (e - 1) 0 ≡ 32 → ⊥) → take e s ≡ dropTrail s
+  trail-bytes p h n = rw (inv, take-last s e p h, trail-other _ _ n)
 
-  pub trail-end : e ≤ 0 → take e s ≡ dropTrail s
+  pub trail-here : 0 < e → e ≤ length s → (getD s (e - 1) 0 ≡ 32 → ⊥) → e ≡ length (dropTrail s)
+  trail-here p h n = sym (length-of-take e s h) ∙ ap length (trail-bytes p h n)
+
+  pub trail-end : e ≤ 0 → e ≡ length (dropTrail s)
   trail-end h = let q : e ≡ 0 = omega arith in rw (inv, q)
+
+-- What is left without trailing blanks is the first bytes of the text, as many as it is long.
+before-front : (b : ℕ) (t left : List ℕ) → take (length left) t ≡ left → take (length (before b left)) (b ∷ t) ≡ before b left
+before-front b t [] e = bools (eqb b 32) (λ q. rw q) (λ q. rw q)
+before-front b t (x ∷ left) e = rw e
+
+trail-front : (s : List ℕ) → take (length (dropTrail s)) s ≡ dropTrail s
+trail-front [] = refl
+trail-front (b ∷ t) = before-front b t (dropTrail t) (trail-front t)
 
 pub trail-start : (s : List ℕ) → dropTrail s ≡ dropTrail (take (length s) s)
 trail-start s = rw take-length
@@ -290,21 +305,18 @@ part-of-part l a w s n h =
     let k : n ≤ w - s = omega arith in
     rw (drop-take s w (drop a l), take-take n (w - s) (drop s (drop a l)) k, drop-drop)
 
-length-of-take : (n : ℕ) (s : List ℕ) → n ≤ length s → length (take n s) ≡ n
-length-of-take n s h = omega (arith, length-take n s)
-
 pub trim-parts : (s : List ℕ) (a n : ℕ) → (a ≡ leadingBlanks s) × (a ≤ length s)
-    → (take n (take (length s - a) (drop a s)) ≡ dropTrail (take (length s - a) (drop a s))) × (n ≤ length (take (length s - a) (drop a s)))
+    → (n ≡ length (dropTrail (take (length s - a) (drop a s)))) × (n ≤ length (take (length s - a) (drop a s)))
     → TrimmedIs s a n
 trim-parts s a n (l, h) (e, k) =
     let r = rest-of s a h in
     let d : drop a s ≡ dropLead s = ap (λ (x : ℕ). drop x s) l ∙ drop-blanks s in
-    let v : take n (drop a s) ≡ trim s = rw (← d) (rw r at e) in
+    let size : n ≡ length (trim s) = rw (← d) (rw r at e) in
     let m : n ≤ length (drop a s) = rw r at k in
     record {
       start-is = l;
-      size-is = sym (length-of-take n (drop a s) m) ∙ ap (λ (x : List ℕ). length x) v;
-      value = v;
+      size-is = size;
+      value = rw (size, d) (trail-front (dropLead s));
       within = omega (arith, m, length-drop a s);
     }
 
@@ -331,7 +343,7 @@ trim-tight (b ∷ t) e =
     let n : suc (length t) - 1 ≡ length t = omega arith in
     let last : getD (b ∷ t) (suc (length t) - 1) 0 ≡ 32 → ⊥ = rw n (eqb-false _ _ (not-true _ (p .1))) in
     let lead : dropLead (b ∷ t) ≡ b ∷ t = rw (not-true (eqb b 32) (p .0)) in
-    ap dropTrail lead ∙ sym (trail-here (b ∷ t) (suc (length t)) (trail-start (b ∷ t)) (omega arith) (omega arith) last) ∙ take-length (b ∷ t)
+    ap dropTrail lead ∙ sym (trail-bytes (b ∷ t) (suc (length t)) (trail-start (b ∷ t)) (omega arith) (omega arith) last) ∙ take-length (b ∷ t)
 
 tight-lead : (s : List ℕ) → isTight s ≡ true → 0 ≡ leadingBlanks s
 unfolding isTight
