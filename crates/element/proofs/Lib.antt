@@ -1,5 +1,6 @@
 pub mod Forms
 pub mod Names
+pub mod NeverTooWide
 pub mod Observations
 pub mod Order
 pub mod Sets

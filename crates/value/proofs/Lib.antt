@@ -3,4 +3,5 @@ pub mod Degrees
 pub mod Moments
 pub mod Numerals
 pub mod Signs
+pub mod TooWide
 pub mod Words
