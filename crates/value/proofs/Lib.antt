@@ -1,3 +1,4 @@
+pub mod Checks
 pub mod Days
 pub mod Degrees
 pub mod Moments

@@ -14,8 +14,7 @@ use Rattle.text.proofs.Bools.{bools, both, neither, never}
 use Rattle.text.proofs.Classes.{digit-range}
 use Rattle.text.proofs.Numbers.{number-front, number-small, number-step, number-end}
 use Rattle.text.proofs.Parts.{take-below}
-use Rattle.value.specs.Decimal.{isPointed, isDecimal, places, isTooWide, isWithin}
-use Rattle.value.specs.declared.decimal.Range.the-variants.{Any, Positive}
+use Rattle.value.specs.Decimal.{isPointed, isDecimal, places, isTooWide, Any, Positive, isWithin}
 use Rattle.value.specs.Numeral.{digits, isDigits, part}
 
 -- The first 18 bytes of a part of at most 18 bytes are all of it.

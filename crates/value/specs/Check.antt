@@ -1,7 +1,7 @@
--- What a check gives of a value: its fault alone.
+-- What a check gives of a value: its fault alone. The check of a form and its value are the same rule, with and without `lessValue`.
 use Prim.Native.Nat.{ℕ, _+_, _<_}
 use mathlib.Core.Path.{_≡_}
-use mathlib.Core.Bool.{true}
+use mathlib.Core.Bool.{Bool, true, false}
 use mathlib.Core.List.{List}
 use lib.ListN.{length, getD}
 use Rattle.text.specs.Class.{isDigit}
@@ -16,6 +16,15 @@ lessValue (Whole whole) = NoValue
 lessValue (Decimal whole places) = NoValue
 lessValue (Time day microseconds) = NoValue
 lessValue (Angle units) = NoValue
+
+-- For the contract of a private function: the value is no fault.
+abbrev pub isFine : Value → Bool
+isFine (Bad kind) = false
+isFine NoValue = true
+isFine (Whole whole) = true
+isFine (Decimal whole places) = true
+isFine (Time day microseconds) = true
+isFine (Angle units) = true
 
 -- For the contract of a private function: two digits stand in a text from a place on.
 pub record TwoDigits (text : List ℕ) (from : ℕ) : Type 0 where

@@ -11,8 +11,6 @@ use Rattle.value.specs.Numeral.{digits, isDigits}
 use Rattle.value.specs.Sign.{isMinus, bare, withSign}
 use Rattle.value.specs.declared.Value.{Value}
 use Rattle.value.specs.declared.Value.the-variants.{Bad, Decimal}
-use Rattle.value.specs.declared.decimal.Range.{Range}
-use Rattle.value.specs.declared.decimal.Range.the-variants.{Any, Positive, Unit}
 
 -- A point and at least one digit.
 unfoldable pub isPointed : List ℕ → Bool
@@ -34,20 +32,30 @@ widest = 18
 unfoldable pub isTooWide : ℕ → List ℕ → Bool
 isTooWide width text = ltb width (length text) || ltb widest (length text)
 
+-- The values that a decimal may have: any, those above zero, or those from -1 to 1.
+pub data Range : Type 0 where
+  Any : Range
+  Positive : Range
+  Unit : Range
+
 -- A whole number with places lies in the range: any, above zero, or from -1 to 1 inclusive.
 abbrev pub isWithin : Range → ℕ → ℕ → Bool
 isWithin Any whole count = true
 isWithin Positive whole count = ltb 0 whole
 isWithin Unit whole count = leb whole (10 ^ count)
 
--- A decimal of a width, with or without a sign, in a range. Its value is a signed whole number with a count of places.
+-- Its value is a signed whole number with a count of places, from the text and from the text less its sign.
+abbrev pub decimalOf : List ℕ → List ℕ → Value
+decimalOf text rest = Decimal (withSign (isMinus text) (number 0 rest)) (places rest)
+
+-- A decimal of a width, with or without a sign, in a range.
 -- It is 8 when its bytes, less a leading sign of a signed decimal, pass its width, whatever they are.
 unfoldable pub decimalIn : Range → ℕ → Bool → List ℕ → Value
 decimalIn range width signed text =
     cond (isTooWide width (bare signed text)) (Bad TooWide)
     (cond (isDecimal (bare signed text))
     (cond (isWithin range (number 0 (bare signed text)) (places (bare signed text)))
-    (Decimal (withSign (isMinus text) (number 0 (bare signed text))) (places (bare signed text)))
+    (decimalOf text (bare signed text))
     (Bad OutOfRange))
     (Bad WrongForm))
 

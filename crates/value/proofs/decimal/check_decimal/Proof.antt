@@ -2,8 +2,7 @@ use mathlib.Core.Path.{sym, _∙_, _≡_}
 use mathlib.Core.Bool.{cond, true, false, _||_}
 use Rattle.text.specs.Digits.{number}
 use Rattle.value.proofs.Numerals.{within-is}
-use Rattle.value.specs.Decimal.{decimal, decimalIn, isWithin, places}
-use Rattle.value.specs.declared.decimal.Range.the-variants.{Any, Positive}
+use Rattle.value.specs.Decimal.{decimal, decimalIn, Any, Positive, isWithin, places}
 use borrow.Author.Needs.{needs}
 use Rattle.value.proofs.decimal.check_decimal.Statement.{statement}
 use Rattle.value.proofs.decimal.check_decimal.Tie as tie
