@@ -14,10 +14,10 @@ abbrev pub allNames : List ℕ
 allNames = endToEnd names
 
 -- Where each of these texts starts, the first at a place and each next one where the one before it ends, and where the last one ends.
-abbrev pub startsFrom : ℕ → List (List ℕ) → List ℕ
-startsFrom place [] = place ∷ []
-startsFrom place (text ∷ texts) = place ∷ startsFrom (place + length text) texts
+abbrev pub textStarts : ℕ → List (List ℕ) → List ℕ
+textStarts place [] = place ∷ []
+textStarts place (text ∷ texts) = place ∷ textStarts (place + length text) texts
 
 -- Where each name starts among all of them, and where the last one ends.
 abbrev pub nameStarts : List ℕ
-nameStarts = startsFrom 0 names
+nameStarts = textStarts 0 names

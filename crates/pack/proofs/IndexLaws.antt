@@ -8,7 +8,8 @@ use lib.ListN.{length, take, drop, getD}
 use Rattle.element.specs.Table.{elements}
 use Rattle.element.specs.Observation.{isPresent, bit}
 use Rattle.element.proofs.Sets.{has-set}
-use Rattle.report.specs.Index.{Index}
+use Rattle.report.specs.Index.{Index, notedValue}
+use Rattle.report.proofs.IndexLaws.{noted-value}
 use Rattle.layout.proofs.BlockReads.{absent-is}
 use Rattle.pack.specs.Inner.{observed, Indexed, valueIn}
 
@@ -25,6 +26,10 @@ module _ {report : List ℕ} {index : Index} (row element : ℕ) (x : Indexed re
   -- Bit e of a row's set says whether the row has a value of element e.
   pub row-bit : getD (index .sets) row 0 / 2 ^ element % 2 ≡ bit (isPresent (valueIn report row element))
   row-bit = ap (λ (s : ℕ). s / 2 ^ element % 2) (x .noted row inside .set-is) ∙ has-set (getD (observed report) row []) element
+
+  -- What is read off the index is the row's value.
+  pub value-is : element < elements → notedValue report index row element ≡ valueIn report row element
+  value-is known = noted-value (x .noted row inside) (omega (arith, x .sets-room, x .starts-room, x .lengths-room)) element known
 
   -- It has none.
   pub value-absent : (getD (index .sets) row 0 / 2 ^ element % 2 ≡ 1 → ⊥) → [] ≡ valueIn report row element

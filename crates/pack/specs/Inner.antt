@@ -7,12 +7,12 @@ use lib.Dec.{eqb, leb, ltb}
 use lib.ListN.{length, take, drop, getD}
 use Rattle.text.specs.Lines.{lineFeed, bar}
 use Rattle.text.specs.Output.{over}
-use Rattle.element.specs.Set.{has, bytesIn}
+use Rattle.element.specs.Set.{has}
 use Rattle.element.specs.Table.{elements, columnOrder}
 use Rattle.element.specs.Observation.{Observation}
 use Rattle.report.specs.Report.{Outcome, accepted, refused, read}
 use Rattle.report.specs.Starts.{startsIn}
-use Rattle.report.specs.Index.{Index, Noted}
+use Rattle.report.specs.Index.{Index, Noted, notedBytes}
 use Rattle.cuts.specs.Plan.{ShortestPromised}
 use Rattle.cuts.specs.declared.Plan.{Plan}
 use Rattle.layout.specs.Packed.{PackedIs}
@@ -119,7 +119,7 @@ pub record BlocksAsk (report : List ℕ) (index : Index) (cuts output : List ℕ
 
 -- The first of the sizes are those of the rows, as the index notes them.
 pub record SizesAre (sets lengths sizes : List ℕ) (count : ℕ) : Type 0 where
-  pub at : (i : ℕ) → i < count → getD sizes i 0 ≡ bytesIn (take elements (drop (i * elements) lengths)) (getD sets i 0)
+  pub at : (i : ℕ) → i < count → getD sizes i 0 ≡ notedBytes sets lengths i
 
 -- The first rows of the index are cut, by their sets and their sizes, which are filled in.
 pub record RowsCut (sets lengths sizes : List ℕ) (rows : ℕ) (before after : List ℕ) (plan : Plan) : Type 0 where

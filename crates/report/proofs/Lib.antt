@@ -1,6 +1,7 @@
 pub mod AnswerLaws
 pub mod ColumnLaws
 pub mod Computed
+pub mod IndexLaws
 pub mod Join
 pub mod LineSteps
 pub mod OneAnswer

@@ -2,9 +2,11 @@
 use Prim.Native.Nat.{ℕ, _+_, _-_, _*_, _/_, _≤_, _<_, min}
 use mathlib.Core.Path.{_≡_}
 use mathlib.Core.List.{List, []}
-use mathlib.Core.Bool.{Bool, true}
+use mathlib.Core.Bool.{Bool, true, cond, _&&_}
+use lib.Dec.{ltb}
 use lib.ListN.{length, take, drop, getD}
 use Rattle.element.specs.Table.{elements}
+use Rattle.element.specs.Set.{has, bytesIn}
 use Rattle.element.specs.Observation.{Observation, isPresent, setOf}
 use Rattle.report.specs.Report.{accepted, refused, read, rowLimit}
 use Rattle.report.specs.Starts.{startsIn}
@@ -59,3 +61,34 @@ IndexCase t first room x (Checked.Refused r) = read t ≡ refused r
 
 pub record IndexIs (t : List ℕ) (first room : ℕ) (x : Index) (r : Checked) : Type 0 where
   pub case : IndexCase t first room x r
+
+-- ---- a value read off an index
+
+-- The index notes a value of an element of a row, both counted from 0: its lists hold the row, and the row's set has the element.
+unfoldable pub isNoted : Index → ℕ → ℕ → Bool
+isNoted x row element =
+    ltb row (rowsIn (x .sets) (x .starts) (x .lengths)) && (ltb element elements && has (getD (x .sets) row 0) element)
+
+-- The value that an index notes of an element of a row: as many bytes of the text as are noted, from the start that is noted on; none where
+-- no value is noted.
+unfoldable pub notedValue : List ℕ → Index → ℕ → ℕ → List ℕ
+notedValue t x row element =
+    cond (isNoted x row element)
+    (take (getD (x .lengths) (row * elements + element) 0) (drop (getD (x .starts) (row * elements + element) 0) t))
+    []
+
+-- ---- the sizes of rows
+
+-- The bytes of a row's values, as an index notes their lengths.
+abbrev pub notedBytes : List ℕ → List ℕ → ℕ → ℕ
+notedBytes sets lengths row = bytesIn (take elements (drop (row * elements) lengths)) (getD sets row 0)
+
+-- How many sizes of rows there is room for, of the rows that the lists hold.
+abbrev pub sizesIn : List ℕ → List ℕ → List ℕ → ℕ
+sizesIn sets lengths sizes = min (length sizes) (min (length sets) (length lengths / elements))
+
+-- The sizes of so many rows are filled in, and the numbers after them stay.
+pub record Sized (sets lengths before after : List ℕ) (count : ℕ) : Type 0 where
+  pub long : length after ≡ length before
+  pub at : (row : ℕ) → row < count → getD after row 0 ≡ notedBytes sets lengths row
+  pub kept : (row : ℕ) → count ≤ row → getD after row 0 ≡ getD before row 0

@@ -1,10 +1,13 @@
 -- `pack::line::write_row` meets its contract. The invariant: the first k values are written.
 use Prim.Native.Nat.{_≤_, _<_, _-_, _^_}
+use mathlib.Core.Path.{_≡_, _∙_}
 use mathlib.Core.List.{[], _∷_}
 use native.Mathlib.Omega.{arith}
+use denote.Ref.{now}
 use lib.ListN.{length, drop, getD, length-append}
 use Rattle.layout.specs.Written.{valuesAt}
 use Rattle.pack.specs.Inner.{observed, valueIn, rowLine}
+use Rattle.pack.proofs.IndexLaws.{value-is}
 use Rattle.pack.proofs.WritingLaws.{Writing, write-length, write-next}
 use Rattle.pack.proofs.FieldLaws.{lineLeft, line-begin, line-turn, line-room, line-fits, line-end}
 use borrow.Author.Needs.{needs}
@@ -40,11 +43,17 @@ shared-slice-read-value-of : tie.Need-shared-slice-read-value-of Inv-loop μ-loo
 shared-slice-read-value-of c = search needs
 
 value-of-requires : tie.Need-value-of-requires Inv-loop μ-loop
-value-of-requires c κs =
-    let pre = c .before .before .before .before .before .before .before .before .before .before .pre in
-    let loop = c .before .before .before .loop in
-    let loop-test = c .before .before .loop-test in
-    (pre .indexed, pre .inside, pre .columns-are .known (loop .k) (loop-test .taken))
+value-of-requires c κs = search needs
+
+-- The value that was read off the index is the row's.
+value-read : (c : tie.After-value-of Inv-loop μ-loop)
+    → now (c .value-of .result)
+    ≡ valueIn (c .before .before .before .before .before .before .before .before .before .before .before .args .report .now) (c .before .before .before .before .before .before .before .before .before .before .before .args .row) (getD (c .before .before .before .before .before .before .before .before .before .before .before .args .columns .now) (c .before .before .before .before .loop .k) 0)
+value-read c =
+    let args = c .before .before .before .before .before .before .before .before .before .before .before .args in
+    let pre = c .before .before .before .before .before .before .before .before .before .before .before .pre in
+    let k = c .before .before .before .before .loop .k in
+    c .value-of .ensures ∙ value-is (args .row) (getD (args .columns .now) k 0) (pre .indexed) (pre .inside) (pre .columns-are .known k (c .before .before .before .loop-test .taken))
 
 sub-write-field : tie.Need-sub-write-field Inv-loop μ-loop
 sub-write-field c =
@@ -68,17 +77,17 @@ write-field-requires c κs =
     let args = c .before .before .before .before .before .before .before .before .before .before .before .before .args in
     let loop-test = c .before .before .before .before .loop-test in
     let loop = c .before .before .before .before .before .loop in
-    rw (c .before .value-of .ensures) (line-fits (valueIn (args .report .now) (args .row)) (args .columns .now) (loop-test .taken) (loop .inv .1))
+    rw (value-read (c .before)) (line-fits (valueIn (args .report .now) (args .row)) (args .columns .now) (loop-test .taken) (loop .inv .1))
 
 add-at : tie.Need-add-at Inv-loop μ-loop
 add-at c =
-    let value-of = c .before .before .before .before .value-of in
+    let read = value-read (c .before .before .before .before) in
     let write-field = c .before .before .write-field in
     let args = c .before .before .before .before .before .before .before .before .before .before .before .before .before .before .before .args in
     let loop = c .before .before .before .before .before .before .before .before .loop in
     let end-of = c .before .before .before .before .before .before .end-of in
     let loop-test = c .before .before .before .before .before .before .before .loop-test in
-    omega (arith, output-fits (c .before .before .before .before .before .before .before .before .before .before .before .before .before .before .before), (rw (value-of .ensures) at (write-field .ensures)) .answer-is, length-append (valueIn (args .report .now) (args .row) (getD (args .columns .now) (loop .k) 0)) (end-of .result ∷ []), line-room (valueIn (args .report .now) (args .row)) (args .columns .now) (loop-test .taken) (loop .inv .1), write-length (loop .inv .1))
+    omega (arith, output-fits (c .before .before .before .before .before .before .before .before .before .before .before .before .before .before .before), (rw read at (write-field .ensures)) .answer-is, length-append (valueIn (args .report .now) (args .row) (getD (args .columns .now) (loop .k) 0)) (end-of .result ∷ []), line-room (valueIn (args .report .now) (args .row)) (args .columns .now) (loop-test .taken) (loop .inv .1), write-length (loop .inv .1))
 
 add-k : tie.Need-add-k Inv-loop μ-loop
 add-k c = search needs
@@ -92,9 +101,9 @@ loop-again c =
     let loop-test = c .before .before .before .before .before .before .before .loop-test in
     let end-of = c .before .before .before .before .before .before .end-of in
     let loop = c .before .before .before .before .before .before .before .before .loop in
-    let value-of = c .before .before .before .before .value-of in
+    let read = value-read (c .before .before .before .before) in
     let write-field = c .before .before .write-field in
-    (omega arith, write-next _ _ (line-turn (valueIn (args .report .now) (args .row)) (args .columns .now) (loop-test .taken) (end-of .ensures) (loop .inv .1)) (rw (value-of .ensures) at (write-field .ensures)))
+    (omega arith, write-next _ _ (line-turn (valueIn (args .report .now) (args .row)) (args .columns .now) (loop-test .taken) (end-of .ensures) (loop .inv .1)) (rw read at (write-field .ensures)))
 
 same-length : tie.Need-same-length Inv-loop μ-loop
 same-length c = write-length (c .before .loop .inv .1)

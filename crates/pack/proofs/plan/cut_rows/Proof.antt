@@ -16,10 +16,7 @@ slice-aggregate-fill-sizes c =
     sym (length-take-le _ _ (pre .2))
 
 fill-sizes-requires : tie.Need-fill-sizes-requires
-fill-sizes-requires c κs =
-    let args = c .before .before .before .before .before .args in
-    let pre = c .before .before .before .before .before .pre in
-    (omega (arith, length-take-le (args .rows) (args .sizes .now) (pre .2), pre .0), omega (arith, length-take-le (args .rows) (args .sizes .now) (pre .2), pre .1))
+fill-sizes-requires c κs = search needs
 
 slice-aggregate-shortest : tie.Need-slice-aggregate-shortest
 slice-aggregate-shortest c =
@@ -51,7 +48,13 @@ returns c =
     let args = c .before .before .before .before .before .before .before .before .before .before .before .before .before .before .args in
     let pre = c .before .before .before .before .before .before .before .before .before .before .before .before .before .before .pre in
     let shortest = c .before .before .shortest in
-    record { filled = filled-room (fill-sizes .last .1 .1 .0) _ _ (fill-sizes .kept .1 .1 .0 ∙ length-take-le (args .rows) (args .sizes .now) (pre .2)); sizes-are = sizes-filled _ (fill-sizes .ensures) (fill-sizes .kept .1 .1 .0 ∙ length-take-le (args .rows) (args .sizes .now) (pre .2)); promised = shortest .ensures }
+    let long = fill-sizes .kept .1 .1 .0 ∙ length-take-le (args .rows) (args .sizes .now) (pre .2) in
+    let all = omega (arith, fill-sizes .ensures .0, length-take-le (args .rows) (args .sizes .now) (pre .2), pre .0, pre .1) in
+    record {
+      filled = filled-room (fill-sizes .last .1 .1 .0) _ _ long;
+      sizes-are = sizes-filled _ (fill-sizes .ensures .1) all long;
+      promised = shortest .ensures;
+    }
 
 pub cut-rows-spec : {M : Type 1} → statement M
 cut-rows-spec =
