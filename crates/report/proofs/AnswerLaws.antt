@@ -184,6 +184,7 @@ absent-valued (accepted os) p n e h =
     (λ b. absurd (absent-refused (rw (a, b) at h))))
     (λ a. absurd (absent-refused (rw a at h)))
 
+-- Two refusals that are one answer are the same.
 same-refusal : {y z : Paper} → _≡_ {A = Answer (ℕ × ℕ)} (refusedBy y) (refusedBy z) → z ≡ y
 same-refusal q = cc
 
