@@ -46,7 +46,12 @@ loop-less : tie.Need-loop-less Inv-loop μ-loop
 loop-less c = search needs
 
 loop-again : tie.Need-loop-again Inv-loop μ-loop
-loop-again c = scan-over (c .before .before .before .before .before .before .before .args .text .now) (c .before .before .before .before .before .loop .fields) (c .before .before .before .before .before .loop .i) (c .before .before .before .before .before .loop .i + 16) (c .before .before .before .before .before .loop .inv) (omega arith) (omega arith) (sym (c .before .before .all-printable .ensures) ∙ c .before .if1 .taken) (c .bars-in .result) (c .bars-in .ensures)
+loop-again c =
+    let if1 = c .before .if1 in
+    let all-printable = c .before .before .all-printable in
+    let loop = c .before .before .before .before .before .loop in
+    let args = c .before .before .before .before .before .before .before .args in
+    scan-over (args .text .now) (loop .fields) (loop .i) (loop .i + 16) (loop .inv) (omega arith) (omega arith) (sym (all-printable .ensures) ∙ if1 .taken) (c .bars-in .result) (c .bars-in .ensures)
 
 scan-from-requires : tie.Need-scan-from-requires Inv-loop μ-loop
 scan-from-requires c κs = c .before .before .before .before .loop .inv

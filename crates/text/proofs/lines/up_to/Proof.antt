@@ -36,7 +36,12 @@ add-result : tie.Need-add-result Inv-loop μ-loop
 add-result c = search needs
 
 returns-2 : tie.Need-returns-2 Inv-loop μ-loop
-returns-2 c = (upTo-here (c .before .before .before .before .before .before .before .args .mark) (c .before .before .before .before .before .before .before .args .text .now) (c .before .before .before .before .before .loop .i + 1) (upTo-on (c .before .before .before .before .before .before .before .args .mark) (c .before .before .before .before .before .before .before .args .text .now) (c .before .before .before .before .before .loop .i) (c .before .before .before .before .before .loop .inv .1) (omega arith) (c .before .before .if1 .left)) (omega arith) (c .if2 .taken), omega arith)
+returns-2 c =
+    let if1 = c .before .before .if1 in
+    let loop = c .before .before .before .before .before .loop in
+    let args = c .before .before .before .before .before .before .before .args in
+    let first = upTo-on (args .mark) (args .text .now) (loop .i) (loop .inv .1) (omega arith) (if1 .left) in
+    (upTo-here (args .mark) (args .text .now) (loop .i + 1) first (omega arith) (c .if2 .taken), omega arith)
 
 add-if3 : tie.Need-add-if3 Inv-loop μ-loop
 add-if3 c = search needs
@@ -48,7 +53,14 @@ add-result-2 : tie.Need-add-result-2 Inv-loop μ-loop
 add-result-2 c = search needs
 
 returns-3 : tie.Need-returns-3 Inv-loop μ-loop
-returns-3 c = (upTo-here (c .before .before .before .before .before .before .before .before .before .args .mark) (c .before .before .before .before .before .before .before .before .before .args .text .now) (c .before .before .before .before .before .before .before .loop .i + 2) (upTo-step (c .before .before .before .before .before .before .before .before .before .args .mark) (c .before .before .before .before .before .before .before .before .before .args .text .now) (c .before .before .before .before .before .before .before .loop .i) 1 (upTo-on (c .before .before .before .before .before .before .before .before .before .args .mark) (c .before .before .before .before .before .before .before .before .before .args .text .now) (c .before .before .before .before .before .before .before .loop .i) (c .before .before .before .before .before .before .before .loop .inv .1) (omega arith) (c .before .before .before .before .if1 .left)) (omega arith) (c .before .before .if2 .left)) (omega arith) (c .if3 .taken), omega arith)
+returns-3 c =
+    let if2 = c .before .before .if2 in
+    let if1 = c .before .before .before .before .if1 in
+    let loop = c .before .before .before .before .before .before .before .loop in
+    let args = c .before .before .before .before .before .before .before .before .before .args in
+    let first = upTo-on (args .mark) (args .text .now) (loop .i) (loop .inv .1) (omega arith) (if1 .left) in
+    let second = upTo-step (args .mark) (args .text .now) (loop .i) 1 first (omega arith) (if2 .left) in
+    (upTo-here (args .mark) (args .text .now) (loop .i + 2) second (omega arith) (c .if3 .taken), omega arith)
 
 add-if4 : tie.Need-add-if4 Inv-loop μ-loop
 add-if4 c = search needs
@@ -60,7 +72,16 @@ add-result-3 : tie.Need-add-result-3 Inv-loop μ-loop
 add-result-3 c = search needs
 
 returns-4 : tie.Need-returns-4 Inv-loop μ-loop
-returns-4 c = (upTo-here (c .before .before .before .before .before .before .before .before .before .before .before .args .mark) (c .before .before .before .before .before .before .before .before .before .before .before .args .text .now) (c .before .before .before .before .before .before .before .before .before .loop .i + 3) (upTo-step (c .before .before .before .before .before .before .before .before .before .before .before .args .mark) (c .before .before .before .before .before .before .before .before .before .before .before .args .text .now) (c .before .before .before .before .before .before .before .before .before .loop .i) 2 (upTo-step (c .before .before .before .before .before .before .before .before .before .before .before .args .mark) (c .before .before .before .before .before .before .before .before .before .before .before .args .text .now) (c .before .before .before .before .before .before .before .before .before .loop .i) 1 (upTo-on (c .before .before .before .before .before .before .before .before .before .before .before .args .mark) (c .before .before .before .before .before .before .before .before .before .before .before .args .text .now) (c .before .before .before .before .before .before .before .before .before .loop .i) (c .before .before .before .before .before .before .before .before .before .loop .inv .1) (omega arith) (c .before .before .before .before .before .before .if1 .left)) (omega arith) (c .before .before .before .before .if2 .left)) (omega arith) (c .before .before .if3 .left)) (omega arith) (c .if4 .taken), omega arith)
+returns-4 c =
+    let if3 = c .before .before .if3 in
+    let if2 = c .before .before .before .before .if2 in
+    let if1 = c .before .before .before .before .before .before .if1 in
+    let loop = c .before .before .before .before .before .before .before .before .before .loop in
+    let args = c .before .before .before .before .before .before .before .before .before .before .before .args in
+    let first = upTo-on (args .mark) (args .text .now) (loop .i) (loop .inv .1) (omega arith) (if1 .left) in
+    let second = upTo-step (args .mark) (args .text .now) (loop .i) 1 first (omega arith) (if2 .left) in
+    let third = upTo-step (args .mark) (args .text .now) (loop .i) 2 second (omega arith) (if3 .left) in
+    (upTo-here (args .mark) (args .text .now) (loop .i + 3) third (omega arith) (c .if4 .taken), omega arith)
 
 add-i : tie.Need-add-i Inv-loop μ-loop
 add-i c = search needs
@@ -69,7 +90,16 @@ loop-less : tie.Need-loop-less Inv-loop μ-loop
 loop-less c = search needs
 
 loop-again : tie.Need-loop-again Inv-loop μ-loop
-loop-again c = (omega arith, upTo-step (c .before .before .before .before .before .before .before .before .before .before .before .args .mark) (c .before .before .before .before .before .before .before .before .before .before .before .args .text .now) (c .before .before .before .before .before .before .before .before .before .loop .i) 3 (upTo-step (c .before .before .before .before .before .before .before .before .before .before .before .args .mark) (c .before .before .before .before .before .before .before .before .before .before .before .args .text .now) (c .before .before .before .before .before .before .before .before .before .loop .i) 2 (upTo-step (c .before .before .before .before .before .before .before .before .before .before .before .args .mark) (c .before .before .before .before .before .before .before .before .before .before .before .args .text .now) (c .before .before .before .before .before .before .before .before .before .loop .i) 1 (upTo-on (c .before .before .before .before .before .before .before .before .before .before .before .args .mark) (c .before .before .before .before .before .before .before .before .before .before .before .args .text .now) (c .before .before .before .before .before .before .before .before .before .loop .i) (c .before .before .before .before .before .before .before .before .before .loop .inv .1) (omega arith) (c .before .before .before .before .before .before .if1 .left)) (omega arith) (c .before .before .before .before .if2 .left)) (omega arith) (c .before .before .if3 .left)) (omega arith) (c .if4 .left))
+loop-again c =
+    let if3 = c .before .before .if3 in
+    let if2 = c .before .before .before .before .if2 in
+    let if1 = c .before .before .before .before .before .before .if1 in
+    let loop = c .before .before .before .before .before .before .before .before .before .loop in
+    let args = c .before .before .before .before .before .before .before .before .before .before .before .args in
+    let first = upTo-on (args .mark) (args .text .now) (loop .i) (loop .inv .1) (omega arith) (if1 .left) in
+    let second = upTo-step (args .mark) (args .text .now) (loop .i) 1 first (omega arith) (if2 .left) in
+    let third = upTo-step (args .mark) (args .text .now) (loop .i) 2 second (omega arith) (if3 .left) in
+    (omega arith, upTo-step (args .mark) (args .text .now) (loop .i) 3 third (omega arith) (c .if4 .left))
 
 up-to-from-requires : tie.Need-up-to-from-requires Inv-loop μ-loop
 up-to-from-requires c κs = search needs

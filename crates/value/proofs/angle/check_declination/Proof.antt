@@ -23,7 +23,17 @@ part-requires c κs = let h = degrees-small 2 (c .before .before .before .bare .
 
 returns : tie.Need-returns
 unfolding declination
-returns c = let s = c .before .before .before .before .before .bare .result .now in let h = degrees-small 2 s (sym (c .before .before .before .is-degrees .ensures) ∙ c .before .before .if1 .taken) in let p : part 0 (digits s) s < 90 = rw (← c .before .before .before .before .digits .ensures, ← c .before .part .ensures) (c .if2 .taken) in let u : units s ≤ 90000000000 = omega (arith, units-below s 90 (h .1) p) in rw (sym (c .before .before .before .before .before .bare .ensures), sym (c .before .before .before .is-degrees .ensures) ∙ c .before .before .if1 .taken, le-leb (units s) 90000000000 u)
+returns c =
+    let part-call = c .before .part in
+    let if1 = c .before .before .if1 in
+    let is-degrees = c .before .before .before .is-degrees in
+    let digits-call = c .before .before .before .before .digits in
+    let bare = c .before .before .before .before .before .bare in
+    let s = bare .result .now in
+    let h = degrees-small 2 s (sym (is-degrees .ensures) ∙ if1 .taken) in
+    let p : part 0 (digits s) s < 90 = rw (← digits-call .ensures, ← part-call .ensures) (c .if2 .taken) in
+    let u : units s ≤ 90000000000 = omega (arith, units-below s 90 (h .1) p) in
+    rw (sym (bare .ensures), sym (is-degrees .ensures) ∙ if1 .taken, le-leb (units s) 90000000000 u)
 
 units-requires : tie.Need-units-requires
 units-requires c κs = let h = degrees-small 2 (c .before .before .before .before .before .bare .result .now) (sym (c .before .before .before .is-degrees .ensures) ∙ c .before .before .if1 .taken) in (c .before .before .before .before .digits .ensures, omega (arith, h .0), h .1)

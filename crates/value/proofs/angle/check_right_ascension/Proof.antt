@@ -20,7 +20,16 @@ part-requires c κs = let h = ascension-small (c .before .before .before .before
 
 returns : tie.Need-returns
 unfolding rightAscension
-returns c = let s = c .before .before .before .before .before .before .args .text .now in let h = ascension-small s (sym (c .before .before .before .is-right-ascension .ensures) ∙ c .before .before .if1 .taken) in let p : part 0 (digits s) s < 360 = rw (← c .before .before .before .before .digits .ensures, ← c .before .part .ensures) (c .if2 .taken) in rw (sym (c .before .before .before .is-right-ascension .ensures) ∙ c .before .before .if1 .taken, lt-ltb (units s) 360000000000 (units-below s 360 (h .1) p))
+returns c =
+    let part-call = c .before .part in
+    let if1 = c .before .before .if1 in
+    let is-right-ascension = c .before .before .before .is-right-ascension in
+    let digits-call = c .before .before .before .before .digits in
+    let args = c .before .before .before .before .before .before .args in
+    let s = args .text .now in
+    let h = ascension-small s (sym (is-right-ascension .ensures) ∙ if1 .taken) in
+    let p : part 0 (digits s) s < 360 = rw (← digits-call .ensures, ← part-call .ensures) (c .if2 .taken) in
+    rw (sym (is-right-ascension .ensures) ∙ if1 .taken, lt-ltb (units s) 360000000000 (units-below s 360 (h .1) p))
 
 units-requires : tie.Need-units-requires
 units-requires c κs = let h = ascension-small (c .before .before .before .before .before .before .args .text .now) (sym (c .before .before .before .is-right-ascension .ensures) ∙ c .before .before .if1 .taken) in (c .before .before .before .before .digits .ensures, h .0, h .1)

@@ -45,10 +45,17 @@ with-sign-requires c κs =
 returns : tie.Need-returns
 unfolding declination
 returns c =
-    let right = found-declination _ _ (c .before .before .before .before .before .before .is-fine .ensures) (c .before .before .before .before .before .before .before .before .before .args .text .now) (c .before .before .before .before .before .before .before .check-declination .ensures) (c .before .before .before .before .before .if1 .taken) in
+    let is-minus = c .before .is-minus in
+    let units-call = c .before .before .units in
+    let bare-call = c .before .before .before .before .bare in
+    let if1 = c .before .before .before .before .before .if1 in
+    let is-fine = c .before .before .before .before .before .before .is-fine in
+    let check-declination = c .before .before .before .before .before .before .before .check-declination in
+    let args = c .before .before .before .before .before .before .before .before .before .args in
+    let right = found-declination _ _ (is-fine .ensures) (args .text .now) (check-declination .ensures) (if1 .taken) in
     let signed = c .with-sign in
     let e : toZ w64 (ofZ w64 (signed .result)) ≡ signed .result = toZ-ofZ (record { sfits = signed .ok }) in
-    rw (e, signed .ensures, c .before .is-minus .ensures, c .before .before .units .ensures, c .before .before .before .before .bare .ensures, right .0, right .1)
+    rw (e, signed .ensures, is-minus .ensures, units-call .ensures, bare-call .ensures, right .0, right .1)
 
 returns-2 : tie.Need-returns-2
 returns-2 c = found-fault _ _ (c .before .is-fine .ensures) (declination (c .before .before .before .before .args .text .now)) (c .before .before .check-declination .ensures) (c .if1 .left)

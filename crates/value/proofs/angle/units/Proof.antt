@@ -18,7 +18,12 @@ ten-to-requires : tie.Need-ten-to-requires
 ten-to-requires c κs = search needs
 
 mul-result : tie.Need-mul-result
-mul-result c = rw (c .ten-to .ensures, c .before .places .ensures, c .before .before .number .ensures, units-front (c .before .before .before .before .args .text .now) (c .before .before .before .before .pre .1) (c .before .before .before .before .pre .2)) (record { fits = lt-of-le-of-lt (units-small (c .before .before .before .before .args .text .now) (c .before .before .before .before .pre .1) (c .before .before .before .before .pre .2)) (lit< tt) })
+mul-result c =
+    let places = c .before .places in
+    let number = c .before .before .number in
+    let args = c .before .before .before .before .args in
+    let pre = c .before .before .before .before .pre in
+    rw (c .ten-to .ensures, places .ensures, number .ensures, units-front (args .text .now) (pre .1) (pre .2)) (record { fits = lt-of-le-of-lt (units-small (args .text .now) (pre .1) (pre .2)) (lit< tt) })
 
 returns : tie.Need-returns
 returns c = rw (c .ten-to .ensures, c .before .places .ensures, c .before .before .number .ensures) (units-front (c .before .before .before .before .args .text .now) (c .before .before .before .before .pre .1) (c .before .before .before .before .pre .2))

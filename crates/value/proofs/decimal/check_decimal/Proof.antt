@@ -28,11 +28,31 @@ is-positive-requires c κs = search needs
 
 returns-2 : tie.Need-returns-2
 unfolding decimal decimalIn
-returns-2 c = let t = c .before .before .before .before .before .before .before .bare .result .now in let i : isWithin (cond (c .before .before .before .before .before .before .before .before .before .args .signed) Any Positive) (number 0 t) (places t) ≡ true = within-is (c .before .before .before .before .before .before .before .before .before .args .signed) (number 0 t) (places t) ∙ rw (← c .before .is-positive .ensures) (c .if3 .taken) in rw (sym (c .before .before .before .before .before .before .before .bare .ensures), sym (c .before .before .before .before .before .before .is-too-wide .ensures) ∙ c .before .before .before .before .before .if1 .left, sym (c .before .before .before .is-decimal .ensures) ∙ c .before .before .if2 .taken, i)
+returns-2 c =
+    let is-positive = c .before .is-positive in
+    let if2 = c .before .before .if2 in
+    let is-decimal = c .before .before .before .is-decimal in
+    let if1 = c .before .before .before .before .before .if1 in
+    let is-too-wide = c .before .before .before .before .before .before .is-too-wide in
+    let bare = c .before .before .before .before .before .before .before .bare in
+    let args = c .before .before .before .before .before .before .before .before .before .args in
+    let t = bare .result .now in
+    let i : isWithin (cond (args .signed) Any Positive) (number 0 t) (places t) ≡ true = within-is (args .signed) (number 0 t) (places t) ∙ rw (← is-positive .ensures) (c .if3 .taken) in
+    rw (sym (bare .ensures), sym (is-too-wide .ensures) ∙ if1 .left, sym (is-decimal .ensures) ∙ if2 .taken, i)
 
 returns-3 : tie.Need-returns-3
 unfolding decimal decimalIn
-returns-3 c = let t = c .before .before .before .before .before .before .before .bare .result .now in let i : isWithin (cond (c .before .before .before .before .before .before .before .before .before .args .signed) Any Positive) (number 0 t) (places t) ≡ false = within-is (c .before .before .before .before .before .before .before .before .before .args .signed) (number 0 t) (places t) ∙ rw (← c .before .is-positive .ensures) (c .if3 .left) in rw (sym (c .before .before .before .before .before .before .before .bare .ensures), sym (c .before .before .before .before .before .before .is-too-wide .ensures) ∙ c .before .before .before .before .before .if1 .left, sym (c .before .before .before .is-decimal .ensures) ∙ c .before .before .if2 .taken, i)
+returns-3 c =
+    let is-positive = c .before .is-positive in
+    let if2 = c .before .before .if2 in
+    let is-decimal = c .before .before .before .is-decimal in
+    let if1 = c .before .before .before .before .before .if1 in
+    let is-too-wide = c .before .before .before .before .before .before .is-too-wide in
+    let bare = c .before .before .before .before .before .before .before .bare in
+    let args = c .before .before .before .before .before .before .before .before .before .args in
+    let t = bare .result .now in
+    let i : isWithin (cond (args .signed) Any Positive) (number 0 t) (places t) ≡ false = within-is (args .signed) (number 0 t) (places t) ∙ rw (← is-positive .ensures) (c .if3 .left) in
+    rw (sym (bare .ensures), sym (is-too-wide .ensures) ∙ if1 .left, sym (is-decimal .ensures) ∙ if2 .taken, i)
 
 returns-4 : tie.Need-returns-4
 unfolding decimal decimalIn

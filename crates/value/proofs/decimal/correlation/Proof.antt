@@ -33,9 +33,16 @@ value-of-requires c κs =
 returns : tie.Need-returns
 unfolding decimalIn correlation
 returns c =
-    let right = found-decimal _ _ (c .before .before .before .before .before .is-fine .ensures) 13 true (c .before .before .before .before .before .before .before .before .args .text .now) (c .before .before .before .before .before .before .check-decimal .ensures) (c .before .before .before .before .if1 .taken) in
-    let unit = rw (c .before .before .before .bare .ensures) at (sym (c .before .before .is-unit .ensures) ∙ c .before .if2 .taken) in
-    rw (c .value-of .ensures, c .before .before .before .bare .ensures, right .0, right .1, unit)
+    let if2 = c .before .if2 in
+    let is-unit = c .before .before .is-unit in
+    let bare-call = c .before .before .before .bare in
+    let if1 = c .before .before .before .before .if1 in
+    let is-fine = c .before .before .before .before .before .is-fine in
+    let check-decimal = c .before .before .before .before .before .before .check-decimal in
+    let args = c .before .before .before .before .before .before .before .before .args in
+    let right = found-decimal _ _ (is-fine .ensures) 13 true (args .text .now) (check-decimal .ensures) (if1 .taken) in
+    let unit = rw (bare-call .ensures) at (sym (is-unit .ensures) ∙ if2 .taken) in
+    rw (c .value-of .ensures, bare-call .ensures, right .0, right .1, unit)
 
 returns-2 : tie.Need-returns-2
 unfolding decimalIn correlation

@@ -30,7 +30,14 @@ is-count-requires c κs = search needs
 
 returns : tie.Need-returns
 unfolding isMinorPlanet
-returns c = rw (c .is-count .ensures, c .before .tail .ensures, c .before .before .is-capital-not-i2 .ensures, c .before .before .before .at2 .ensures, c .before .before .before .before .is-capital-not-i .ensures, c .before .before .before .before .before .starts-in .ensures, c .before .before .before .before .before .before .before .at .ensures)
+returns c =
+    let tail = c .before .tail in
+    let is-capital-not-i2 = c .before .before .is-capital-not-i2 in
+    let at2 = c .before .before .before .at2 in
+    let is-capital-not-i = c .before .before .before .before .is-capital-not-i in
+    let starts-in = c .before .before .before .before .before .starts-in in
+    let at = c .before .before .before .before .before .before .before .at in
+    rw (c .is-count .ensures, tail .ensures, is-capital-not-i2 .ensures, at2 .ensures, is-capital-not-i .ensures, starts-in .ensures, at .ensures)
 
 pub is-minor-planet-spec : {M : Type 1} → statement M
 is-minor-planet-spec =

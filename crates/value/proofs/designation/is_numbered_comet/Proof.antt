@@ -30,7 +30,15 @@ is-fragment-or-none-requires c κs = search needs
 
 returns : tie.Need-returns
 unfolding isNumberedComet
-returns c = rw (c .is-fragment-or-none .ensures, c .before .tail2 .ensures, c .before .before .tail .ensures, c .before .before .before .is-p-or-d .ensures, c .before .before .before .before .at .ensures, c .before .before .before .before .before .is-count .ensures, c .before .before .before .before .before .before .front .ensures, c .before .before .before .before .before .before .before .digits .ensures)
+returns c =
+    let tail2 = c .before .tail2 in
+    let tail = c .before .before .tail in
+    let is-p-or-d = c .before .before .before .is-p-or-d in
+    let at = c .before .before .before .before .at in
+    let is-count = c .before .before .before .before .before .is-count in
+    let front = c .before .before .before .before .before .before .front in
+    let digits = c .before .before .before .before .before .before .before .digits in
+    rw (c .is-fragment-or-none .ensures, tail2 .ensures, tail .ensures, is-p-or-d .ensures, at .ensures, is-count .ensures, front .ensures, digits .ensures)
 
 pub is-numbered-comet-spec : {M : Type 1} → statement M
 is-numbered-comet-spec =

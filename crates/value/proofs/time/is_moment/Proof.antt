@@ -41,7 +41,18 @@ is-clock-requires c κs = search needs
 
 returns : tie.Need-returns
 unfolding isMoment
-returns c = rw (c .is-clock .ensures, c .before .two7 .ensures .0, c .before .before .two6 .ensures .0, c .before .before .before .two5 .ensures .0, c .before .before .before .before .is-date .ensures, c .before .before .before .before .before .two4 .ensures .0, c .before .before .before .before .before .before .two3 .ensures .0, c .before .before .before .before .before .before .before .two2 .ensures .0, c .before .before .before .before .before .before .before .before .two .ensures .0, four-is (c .before .before .before .before .before .before .before .before .before .before .args .text .now) (time-two (c .before .before .before .before .before .before .before .before .before .before .args .text .now) 2 (c .before .before .before .before .before .before .before .before .before .before .pre) (omega arith) refl refl))
+returns c =
+    let two7 = c .before .two7 in
+    let two6 = c .before .before .two6 in
+    let two5 = c .before .before .before .two5 in
+    let is-date = c .before .before .before .before .is-date in
+    let two4 = c .before .before .before .before .before .two4 in
+    let two3 = c .before .before .before .before .before .before .two3 in
+    let two2 = c .before .before .before .before .before .before .before .two2 in
+    let two = c .before .before .before .before .before .before .before .before .two in
+    let args = c .before .before .before .before .before .before .before .before .before .before .args in
+    let pre = c .before .before .before .before .before .before .before .before .before .before .pre in
+    rw (c .is-clock .ensures, two7 .ensures .0, two6 .ensures .0, two5 .ensures .0, is-date .ensures, two4 .ensures .0, two3 .ensures .0, two2 .ensures .0, two .ensures .0, four-is (args .text .now) (time-two (args .text .now) 2 pre (omega arith) refl refl))
 
 pub is-moment-spec : {M : Type 1} → statement M
 is-moment-spec =

@@ -30,10 +30,18 @@ add-result : tie.Need-add-result
 add-result c = omega (arith, c .before .before .wide .ensures .1, c .wide2 .ensures .1)
 
 sub-result : tie.Need-sub-result
-sub-result c = omega (arith, c .before .before .wide .ensures .0, c .wide2 .ensures .0, digit-range (getD (c .before .before .before .before .before .args .text .now) (c .before .before .before .before .before .args .from) 0) (c .before .before .before .before .before .pre .tens) .0, digit-range (getD (c .before .before .before .before .before .args .text .now) (c .before .before .before .before .before .args .from + 1) 0) (c .before .before .before .before .before .pre .ones) .0)
+sub-result c =
+    let wide = c .before .before .wide in
+    let args = c .before .before .before .before .before .args in
+    let pre = c .before .before .before .before .before .pre in
+    omega (arith, wide .ensures .0, c .wide2 .ensures .0, digit-range (getD (args .text .now) (args .from) 0) (pre .tens) .0, digit-range (getD (args .text .now) (args .from + 1) 0) (pre .ones) .0)
 
 returns : tie.Need-returns
-returns c = (rw (c .before .before .wide .ensures .0, c .wide2 .ensures .0) (two-is (c .before .before .before .before .before .args .text .now) (c .before .before .before .before .before .args .from) (c .before .before .before .before .before .pre)), omega (arith, c .before .before .wide .ensures .0, c .wide2 .ensures .0, digit-range (getD (c .before .before .before .before .before .args .text .now) (c .before .before .before .before .before .args .from) 0) (c .before .before .before .before .before .pre .tens) .1, digit-range (getD (c .before .before .before .before .before .args .text .now) (c .before .before .before .before .before .args .from + 1) 0) (c .before .before .before .before .before .pre .ones) .1))
+returns c =
+    let wide = c .before .before .wide in
+    let args = c .before .before .before .before .before .args in
+    let pre = c .before .before .before .before .before .pre in
+    (rw (wide .ensures .0, c .wide2 .ensures .0) (two-is (args .text .now) (args .from) pre), omega (arith, wide .ensures .0, c .wide2 .ensures .0, digit-range (getD (args .text .now) (args .from) 0) (pre .tens) .1, digit-range (getD (args .text .now) (args .from + 1) 0) (pre .ones) .1))
 
 pub two-spec : {M : Type 1} → statement M
 two-spec =

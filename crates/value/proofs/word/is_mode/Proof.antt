@@ -56,8 +56,15 @@ same-requires-8 c κs = search needs
 
 returns : tie.Need-returns
 returns c =
+    let same7 = c .before .before .same7 in
+    let same6 = c .before .before .before .before .same6 in
+    let same5 = c .before .before .before .before .before .before .same5 in
+    let same4 = c .before .before .before .before .before .before .before .before .same4 in
+    let same3 = c .before .before .before .before .before .before .before .before .before .before .same3 in
+    let same2 = c .before .before .before .before .before .before .before .before .before .before .before .before .same2 in
+    let same = c .before .before .before .before .before .before .before .before .before .before .before .before .before .before .same in
     let args = c .before .before .before .before .before .before .before .before .before .before .before .before .before .before .before .before .before .args in
-    rw (c .same8 .ensures, c .before .before .same7 .ensures, c .before .before .before .before .same6 .ensures, c .before .before .before .before .before .before .same5 .ensures, c .before .before .before .before .before .before .before .before .same4 .ensures, c .before .before .before .before .before .before .before .before .before .before .same3 .ensures, c .before .before .before .before .before .before .before .before .before .before .before .before .same2 .ensures, c .before .before .before .before .before .before .before .before .before .before .before .before .before .before .same .ensures) (joined-is false modes (args .text .now))
+    rw (c .same8 .ensures, same7 .ensures, same6 .ensures, same5 .ensures, same4 .ensures, same3 .ensures, same2 .ensures, same .ensures) (joined-is false modes (args .text .now))
 
 pub is-mode-spec : {M : Type 1} → statement M
 is-mode-spec =

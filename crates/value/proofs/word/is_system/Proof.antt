@@ -38,8 +38,12 @@ same-requires-5 c κs = search needs
 
 returns : tie.Need-returns
 returns c =
+    let same4 = c .before .before .same4 in
+    let same3 = c .before .before .before .before .same3 in
+    let same2 = c .before .before .before .before .before .before .same2 in
+    let same = c .before .before .before .before .before .before .before .before .same in
     let args = c .before .before .before .before .before .before .before .before .before .before .before .args in
-    rw (c .same5 .ensures, c .before .before .same4 .ensures, c .before .before .before .before .same3 .ensures, c .before .before .before .before .before .before .same2 .ensures, c .before .before .before .before .before .before .before .before .same .ensures) (joined-is false systems (args .text .now))
+    rw (c .same5 .ensures, same4 .ensures, same3 .ensures, same2 .ensures, same .ensures) (joined-is false systems (args .text .now))
 
 pub is-system-spec : {M : Type 1} → statement M
 is-system-spec =
