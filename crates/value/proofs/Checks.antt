@@ -29,6 +29,7 @@ less-fault (Angle units) e = never (sym e)
 abbrev inRange : Bool → Bool → Value → Value
 inRange form range value = cond form (cond range value (Bad OutOfRange)) (Bad WrongForm)
 
+-- Where it is no fault, each test is passed.
 in-range : (form range : Bool) (value : Value) → isFine (lessValue (inRange form range value)) ≡ true → (form ≡ true) × (range ≡ true)
 in-range true true value e = (refl, refl)
 in-range true false value e = never e
@@ -52,6 +53,7 @@ any-range false true range whole places e h = never (sym h)
 any-range false false range whole places e h = e
 
 module _ (found : Value) (fine : Bool) (f : fine ≡ isFine found) where
+  -- Whether a check finds no fault is told by what the text gives.
   found-is : (value : Value) → found ≡ lessValue value → isFine (lessValue value) ≡ fine
   found-is value e = sym (f ∙ ap isFine e)
 
@@ -77,15 +79,14 @@ module _ (found : Value) (fine : Bool) (f : fine ≡ isFine found) where
       let rest = bare true text in
       in-range (isDegrees 2 rest) (leb (units rest) 90000000000) (Angle (withSign (isMinus text) (units rest))) (found-is (declination text) e ∙ h)
 
-  module _ (width : ℕ) (signed : Bool) (text : List ℕ) (e : found ≡ lessValue (decimal width signed text)) where
-    pub found-decimal : fine ≡ true
-        → (isTooWide width (bare signed text) ≡ false) × (isDecimal (bare signed text) ≡ true)
-        × (isWithin (cond signed Any Positive) (number 0 (bare signed text)) (places (bare signed text)) ≡ true)
-    unfolding decimal decimalIn
-    found-decimal h =
-        let rest = bare signed text in
-        let within = isWithin (cond signed Any Positive) (number 0 rest) (places rest) in
-        in-width (isTooWide width rest) (isDecimal rest) within (decimalOf text rest) (found-is (decimal width signed text) e ∙ h)
+  pub found-decimal : (width : ℕ) (signed : Bool) (text : List ℕ) → found ≡ lessValue (decimal width signed text) → fine ≡ true
+      → (isTooWide width (bare signed text) ≡ false) × (isDecimal (bare signed text) ≡ true)
+      × (isWithin (cond signed Any Positive) (number 0 (bare signed text)) (places (bare signed text)) ≡ true)
+  unfolding decimal decimalIn
+  found-decimal width signed text e h =
+      let rest = bare signed text in
+      let within = isWithin (cond signed Any Positive) (number 0 rest) (places rest) in
+      in-width (isTooWide width rest) (isDecimal rest) within (decimalOf text rest) (found-is (decimal width signed text) e ∙ h)
 
   -- The fault of a signed decimal of 13 is that of a correlation.
   pub found-correlation : (text : List ℕ) → found ≡ lessValue (decimal 13 true text) → fine ≡ false → found ≡ correlation text

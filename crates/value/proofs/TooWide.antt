@@ -28,6 +28,7 @@ either : (test : Bool) (first second : Value) → Narrow first → Narrow second
 either true first second f s = f
 either false first second f s = s
 
+-- Neither of the other faults is 8, and nothing else is.
 wrong-form : Narrow (Bad WrongForm)
 wrong-form e = let z : _≡_ {A = ℕ} 0 1 = cc in omega arith
 
@@ -43,6 +44,7 @@ a-time day microseconds e = let z : _≡_ {A = ℕ} 0 1 = cc in omega arith
 an-angle : (units : ℤ) → Narrow (Angle units)
 an-angle units e = let z : _≡_ {A = ℕ} 0 1 = cc in omega arith
 
+-- Each form gives one of these.
 module _ (text : List ℕ) where
   pub permID-narrow : Narrow (permID text)
   unfolding permID
