@@ -51,19 +51,35 @@ block-bytes-requires : tie.Need-block-bytes-requires
 block-bytes-requires c κs = search (needs, further-needs)
 
 mul-cost : tie.Need-mul-cost
-mul-cost c = omega (arith, c .before .before .before .before .before .before .before .before .before .before .before .before .before .before .before .before .pre .0 .few, c .before .before .before .before .before .before .before .before .before .before .before .before .before .before .before .before .pre .2)
+mul-cost c =
+    let pre = c .before .before .before .before .before .before .before .before .before .before .before .before .before .before .before .before .pre in
+    omega (arith, pre .0 .few, pre .2)
 
 shared-slice-read-cost : tie.Need-shared-slice-read-cost
-shared-slice-read-cost c = omega (arith, c .before .before .before .before .before .before .before .before .before .before .before .before .before .before .before .before .before .pre .0 .rest, c .before .before .before .before .before .before .before .before .before .before .before .before .before .before .before .before .before .pre .2)
+shared-slice-read-cost c =
+    let pre = c .before .before .before .before .before .before .before .before .before .before .before .before .before .before .before .before .before .pre in
+    omega (arith, pre .0 .rest, pre .2)
 
 add-cost : tie.Need-add-cost
 add-cost c = search (needs, further-needs)
 
 returns : tie.Need-returns
-returns c = (step-take _ _ _ _ (c .before .before .before .before .before .before .before .before .before .before .before .before .before .before .before .before .before .before .before .pre .0) _ (c .before .before .before .before .before .before .before .before .before .before .before .before .before .before .before .before .before .before .before .pre .1) (c .before .before .before .before .before .before .before .before .before .before .before .before .before .before .before .before .before .before .before .pre .2) _ _ _ _ (c .before .before .before .before .before .before .before .before .wide-size .ensures .0) (c .before .before .before .before .before .wide-count .ensures) (c .before .before .before .before .before .before .before .before .before .before .head-after .ensures) (c .before .before .before .block-bytes .ensures) (c .if1 .taken), refl, refl)
+returns c =
+    let block-bytes = c .before .before .before .block-bytes in
+    let wide-count = c .before .before .before .before .before .wide-count in
+    let wide-size = c .before .before .before .before .before .before .before .before .wide-size in
+    let head-after = c .before .before .before .before .before .before .before .before .before .before .head-after in
+    let pre = c .before .before .before .before .before .before .before .before .before .before .before .before .before .before .before .before .before .before .before .pre in
+    (step-take _ _ _ _ (pre .0) _ (pre .1) (pre .2) _ _ _ _ (wide-size .ensures .0) (wide-count .ensures) (head-after .ensures) (block-bytes .ensures) (c .if1 .taken), refl, refl)
 
 returns-2 : tie.Need-returns-2
-returns-2 c = (step-leave _ _ _ _ (c .before .before .before .before .before .before .before .before .before .before .before .before .before .before .before .before .before .before .before .pre .0) _ (c .before .before .before .before .before .before .before .before .before .before .before .before .before .before .before .before .before .before .before .pre .1) (c .before .before .before .before .before .before .before .before .before .before .before .before .before .before .before .before .before .before .before .pre .2) _ _ _ _ (c .before .before .before .before .before .before .before .before .wide-size .ensures .0) (c .before .before .before .before .before .wide-count .ensures) (c .before .before .before .before .before .before .before .before .before .before .head-after .ensures) (c .before .before .before .block-bytes .ensures) (c .if1 .left), refl, refl)
+returns-2 c =
+    let block-bytes = c .before .before .before .block-bytes in
+    let wide-count = c .before .before .before .before .before .wide-count in
+    let wide-size = c .before .before .before .before .before .before .before .before .wide-size in
+    let head-after = c .before .before .before .before .before .before .before .before .before .before .head-after in
+    let pre = c .before .before .before .before .before .before .before .before .before .before .before .before .before .before .before .before .before .before .before .pre in
+    (step-leave _ _ _ _ (pre .0) _ (pre .1) (pre .2) _ _ _ _ (wide-size .ensures .0) (wide-count .ensures) (head-after .ensures) (block-bytes .ensures) (c .if1 .left), refl, refl)
 
 pub look-further-spec : {M : Type 1} → statement M
 look-further-spec =

@@ -21,10 +21,17 @@ loop-holds : tie.Need-loop-holds Inv-loop μ-loop
 loop-holds c = near-start _ _ _ (c .look-first .ensures)
 
 look-further-requires : tie.Need-look-further-requires Inv-loop μ-loop
-look-further-requires c κs = (c .before .before .before .before .before .before .before .before .pre .0, c .before .before .loop .inv .looked, omega (arith, near-inside _ _ _ (c .before .before .before .before .before .before .before .before .pre .1) _ (c .before .before .loop .inv) (c .if1 .taken), runs-long _ _ _ _ (c .before .before .before .before .before .before .before .before .pre .0)))
+look-further-requires c κs =
+    let loop = c .before .before .loop in
+    let pre = c .before .before .before .before .before .before .before .before .pre in
+    (pre .0, loop .inv .looked, omega (arith, near-inside _ _ _ (pre .1) _ (loop .inv) (c .if1 .taken), runs-long _ _ _ _ (pre .0)))
 
 loop-less : tie.Need-loop-less Inv-loop μ-loop
-loop-less c = omega (arith, c .look-further .ensures .2, near-inside _ _ _ (c .before .before .before .before .before .before .before .before .before .pre .1) _ (c .before .before .before .loop .inv) (c .before .if1 .taken), runs-long _ _ _ _ (c .before .before .before .before .before .before .before .before .before .pre .0))
+loop-less c =
+    let if1 = c .before .if1 in
+    let loop = c .before .before .before .loop in
+    let pre = c .before .before .before .before .before .before .before .before .before .pre in
+    omega (arith, c .look-further .ensures .2, near-inside _ _ _ (pre .1) _ (loop .inv) (if1 .taken), runs-long _ _ _ _ (pre .0))
 
 loop-again : tie.Need-loop-again Inv-loop μ-loop
 loop-again c = near-more _ _ _ (c .before .before .before .before .before .before .before .before .before .pre .1) _ (c .before .before .before .loop .inv) (c .before .if1 .taken) _ (c .look-further .ensures)

@@ -10,7 +10,9 @@ use Rattle.cuts.proofs.runs.press_rows.Statement.{statement}
 use Rattle.cuts.proofs.runs.press_rows.Tie as tie
 
 abbrev Inv-loop : tie.InvT-loop
-Inv-loop sets sizes run-sets₀ run-sizes₀ run-counts₀ j₀ i₀ run-sets run-sizes run-counts j i = (i ≤ length sets) × (length run-sets ≡ length run-sets₀) × (length run-sizes ≡ length run-sizes₀) × (length run-counts ≡ length run-counts₀) × Pressed sets sizes i run-sets run-sizes run-counts j
+Inv-loop sets sizes run-sets₀ run-sizes₀ run-counts₀ j₀ i₀ run-sets run-sizes run-counts j i =
+    (i ≤ length sets) × (length run-sets ≡ length run-sets₀) × (length run-sizes ≡ length run-sizes₀)
+    × (length run-counts ≡ length run-counts₀) × Pressed sets sizes i run-sets run-sizes run-counts j
 
 abbrev μ-loop : tie.MeasureT-loop
 μ-loop sets sizes run-sets₀ run-sizes₀ run-counts₀ j₀ i₀ run-sets run-sizes run-counts j i = i

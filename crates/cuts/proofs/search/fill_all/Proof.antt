@@ -33,7 +33,11 @@ sub-i : tie.Need-sub-i Inv-loop μ-loop
 sub-i c = search (needs, fill-all-needs)
 
 fill-run-requires : tie.Need-fill-run-requires Inv-loop μ-loop
-fill-run-requires c κs = (fit-filled _ _ _ _ _ _ _ _ _ (c .before .before .before .before .before .before .before .before .before .before .pre) (c .before .before .before .loop .inv .2), omega (arith, c .before .before .before .loop .inv .1, c .before .before .loop-test .taken), filled-back _ _ _ _ _ (c .before .before .loop-test .taken) (c .before .before .before .loop .inv .2), tail-back _ _ _ _ (c .before .before .loop-test .taken) (c .before .before .before .loop .inv .3))
+fill-run-requires c κs =
+    let loop-test = c .before .before .loop-test in
+    let loop = c .before .before .before .loop in
+    let pre = c .before .before .before .before .before .before .before .before .before .before .pre in
+    (fit-filled _ _ _ _ _ _ _ _ _ pre (loop .inv .2), omega (arith, loop .inv .1, loop-test .taken), filled-back _ _ _ _ _ (loop-test .taken) (loop .inv .2), tail-back _ _ _ _ (loop-test .taken) (loop .inv .3))
 
 loop-less : tie.Need-loop-less Inv-loop μ-loop
 loop-less c = search (needs, fill-all-needs)

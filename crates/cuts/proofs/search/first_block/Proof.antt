@@ -23,7 +23,13 @@ best-of-requires : tie.Need-best-of-requires
 best-of-requires c κs = search needs
 
 returns : tie.Need-returns
-returns c = found-all _ _ _ _ (c .before .before .before .before .before .before .before .before .before .before .before .pre .0) _ _ _ _ _ (c .before .before .before .before .look-near .ensures) (c .before .before .look-far .ensures) (c .before .before .before .pass-on .ensures) (c .before .tail-of .ensures) (c .best-of .ensures)
+returns c =
+    let tail-of = c .before .tail-of in
+    let look-far = c .before .before .look-far in
+    let pass-on = c .before .before .before .pass-on in
+    let look-near = c .before .before .before .before .look-near in
+    let pre = c .before .before .before .before .before .before .before .before .before .before .before .pre in
+    found-all _ _ _ _ (pre .0) _ _ _ _ _ (look-near .ensures) (look-far .ensures) (pass-on .ensures) (tail-of .ensures) (c .best-of .ensures)
 
 pub first-block-spec : {M : Type 1} → statement M
 first-block-spec =
