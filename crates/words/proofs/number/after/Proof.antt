@@ -28,11 +28,19 @@ add-result c = search needs
 
 returns : tie.Need-returns
 unfolding after
-returns c = rw (sym (c .before .before .is-of .ensures) ∙ c .before .if1 .taken) (omega (arith, within (c .before .before .before .args .n) (c .before .before .before .args .byte - 48) (omega (arith, digit-range (c .before .before .before .args .byte) (sym (c .before .before .is-of .ensures) ∙ c .before .if1 .taken))) (c .if2 .taken)))
+returns c =
+    let if1 = c .before .if1 in
+    let is-of = c .before .before .is-of in
+    let args = c .before .before .before .args in
+    rw (sym (is-of .ensures) ∙ if1 .taken) (omega (arith, within (args .n) (args .byte - 48) (omega (arith, digit-range (args .byte) (sym (is-of .ensures) ∙ if1 .taken))) (c .if2 .taken)))
 
 returns-2 : tie.Need-returns-2
 unfolding after
-returns-2 c = rw (sym (c .before .before .is-of .ensures) ∙ c .before .if1 .taken) (omega (arith, past (c .before .before .before .args .n) (c .before .before .before .args .byte - 48) (omega (arith, digit-range (c .before .before .before .args .byte) (sym (c .before .before .is-of .ensures) ∙ c .before .if1 .taken))) (c .if2 .left)))
+returns-2 c =
+    let if1 = c .before .if1 in
+    let is-of = c .before .before .is-of in
+    let args = c .before .before .before .args in
+    rw (sym (is-of .ensures) ∙ if1 .taken) (omega (arith, past (args .n) (args .byte - 48) (omega (arith, digit-range (args .byte) (sym (is-of .ensures) ∙ if1 .taken))) (c .if2 .left)))
 
 returns-3 : tie.Need-returns-3
 unfolding after

@@ -32,7 +32,12 @@ loop-less : tie.Need-loop-less Inv-loop μ-loop
 loop-less c = search needs
 
 loop-again : tie.Need-loop-again Inv-loop μ-loop
-loop-again c = let s = c .before .before .before .before .before .args .text .now in (omega arith, omega (arith, c .after .ensures), c .before .before .before .loop .inv .2 ∙ ap (λ m. min m largest) (number-step s (c .before .before .before .loop .i) (c .before .before .before .loop .n) (c .before .before .loop-test .taken)) ∙ sym (stays (after (c .before .before .before .loop .n) (getD s (c .before .before .before .loop .i) 0)) (c .after .result) (drop (c .before .before .before .loop .i + 1) s) (c .after .ensures)))
+loop-again c =
+    let loop-test = c .before .before .loop-test in
+    let loop = c .before .before .before .loop in
+    let args = c .before .before .before .before .before .args in
+    let s = args .text .now in
+    (omega arith, omega (arith, c .after .ensures), loop .inv .2 ∙ ap (λ m. min m largest) (number-step s (loop .i) (loop .n) (loop-test .taken)) ∙ sym (stays (after (loop .n) (getD s (loop .i) 0)) (c .after .result) (drop (loop .i + 1) s) (c .after .ensures)))
 
 returns : tie.Need-returns Inv-loop μ-loop
 returns c = omega (arith, c .before .loop .inv .2, ap (λ m. min m largest) (number-end (c .before .before .before .args .text .now) (c .before .loop .i) (c .before .loop .n) (c .loop-test .left)))
