@@ -1,14 +1,16 @@
 // `ades audit`: the auditor's sheet. It answers whether a report is accepted, whether its packed report holds the same observations,
 // and why that one is as long as it is.
-use crate::comparing;
 use crate::costing;
 use crate::explain;
-use crate::noted::ENTRIES;
-use crate::noted::ROWS;
 use crate::packing::OUTPUT;
+use inspect::ENTRIES;
+use inspect::ROWS;
+use inspect::comparison::Compared;
+use inspect::comparison::compare;
 use pack::Packed;
 use refusal::Refusal;
 use report::answer::Checked;
+use report::index::fill_sizes;
 use report::index::index;
 use text::part::front;
 use words::print;
@@ -19,7 +21,7 @@ pub fn audit(report: &[u8]) {
     let mut starts = [0u16; ENTRIES];
     let mut lengths = [0u16; ENTRIES];
     match index(report, 0, &mut sets, &mut starts, &mut lengths) {
-        Checked::Accepted(count) => print_sheet(report, count, &sets, &starts, &lengths),
+        Checked::Accepted(count) => print_sheet(report, count, &sets, &lengths),
         Checked::Refused(refusal) => print_refusal(report, refusal),
     }
 }
@@ -34,13 +36,13 @@ fn print_refusal(report: &[u8], refusal: Refusal) {
 }
 
 // Prints the sheet of an accepted report.
-fn print_sheet(report: &[u8], count: usize, sets: &[u64], starts: &[u16], lengths: &[u16]) {
+fn print_sheet(report: &[u8], count: usize, sets: &[u64], lengths: &[u16]) {
     let mut output = [0u8; OUTPUT];
     match pack::pack(report, &mut output) {
         Packed::Length(length) => {
             let packed = front(&output, length);
             print_count(count, report.len());
-            print_same(report, packed, count, sets, starts, lengths);
+            print_same(report, packed, count);
             print_length(report, packed, count, sets, lengths);
         }
         Packed::Refused(refusal) => print_refusal(report, refusal),
@@ -66,30 +68,32 @@ fn print_proof_of_check() {
 }
 
 // Prints the answer to the second question.
-fn print_same(
-    report: &[u8],
-    packed: &[u8],
-    count: usize,
-    sets: &[u64],
-    starts: &[u16],
-    lengths: &[u16],
-) {
-    let same = comparing::same_rows(report, packed, count, sets, starts, lengths);
+fn print_same(report: &[u8], packed: &[u8], count: usize) {
     print::bytes(b"2. Does the packed report hold the same observations in the same order? ");
-    if same == count {
-        print::bytes(b"Yes.\n");
-    } else {
-        print::bytes(b"No.\n");
+    match compare(report, packed) {
+        Compared::Same(observations) => print_compared(b"Yes.\n", observations, count),
+        Compared::Differ(observation, _) => print_compared(b"No.\n", before(observation), count),
+        _ => print_compared(b"No.\n", 0, count),
     }
+    print::bytes(
+        b"   Proved of every report: `reads` of `PackedIs` (crates/layout/specs/Packed.antt),\n",
+    );
+    print::bytes(b"   which `pack` promises (crates/pack/specs/Promise.antt).\n");
+}
+
+// Prints an answer, and how many observations from the first on are the same, of how many.
+fn print_compared(answer: &[u8], same: usize, count: usize) {
+    print::bytes(answer);
     print::bytes(b"   Read back and compared: ");
     print::number(same as u64);
     print::bytes(b" of ");
     print::number(count as u64);
     print::bytes(b" are the same.\n");
-    print::bytes(
-        b"   Proved of every report: `reads` of `PackedIs` (crates/layout/specs/Packed.antt),\n",
-    );
-    print::bytes(b"   which `pack` promises (crates/pack/specs/Promise.antt).\n");
+}
+
+// How many observations stand before the one of a number, counted from 1.
+fn before(observation: usize) -> usize {
+    if observation == 0 { 0 } else { observation - 1 }
 }
 
 // Prints the answer to the third question.
@@ -114,7 +118,7 @@ fn print_length(report: &[u8], packed: &[u8], count: usize, sets: &[u64], length
 // Prints the account of the packed report, and what else its observations could have cost.
 fn print_costs(report: &[u8], packed: &[u8], count: usize, sets: &[u64], lengths: &[u16]) {
     let mut sizes = [0u32; ROWS];
-    costing::fill_sizes(sets, lengths, &mut sizes);
+    fill_sizes(sets, lengths, &mut sizes);
     if sets.len() < count {
         return;
     }

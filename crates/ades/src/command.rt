@@ -1,19 +1,23 @@
 // A command: its words, parted by bytes 0.
 use crate::error;
-use crate::place;
+use inspect::part;
 use words::print;
+ghost use mathlib.Core.Path.{_≡_};
+ghost use Prim.Native.Nat.{_≤_};
+ghost use lib.ListN.{length};
+ghost use Rattle.inspect.specs.Part.{partOf, marksIn};
 
 // The byte between two words.
 const PARTING: u8 = 0;
 
 // What gathering the program's arguments came to: a command of so many bytes, or more than there is room for.
-pub enum Gathered {
+pub(crate) enum Gathered {
     Length(usize),
     TooLong,
 }
 
 // Puts the program's arguments into the space as a command.
-pub fn gather(space: &mut [u8]) -> Gathered {
+pub(crate) fn gather(space: &mut [u8]) -> Gathered {
     let count = os::arg_count();
     let mut at: usize = 0;
     let mut i: usize = 1;
@@ -51,17 +55,21 @@ fn less_one(number: usize) -> usize {
 }
 
 // The word of a number, counted from 0; empty past the last one.
-pub fn word(command: &[u8], number: usize) -> &[u8] {
-    place::part(command, place::start(command, number, PARTING), PARTING)
+pub fn word(command: &[u8], number: usize) -> &[u8]
+    ensures { λ r. ⌜ now r ≡ partOf (now (command .entry)) number 0 ⌝ }
+{
+    part::numbered(command, number, PARTING)
 }
 
 // How many words a command has after its name.
-pub fn arguments(command: &[u8]) -> usize {
-    place::count(command, PARTING)
+pub fn arguments(command: &[u8]) -> usize
+    ensures { λ r. ⌜ (r ≡ marksIn 0 (now (command .entry))) × (r ≤ length (now (command .entry))) ⌝ }
+{
+    part::count(command, PARTING)
 }
 
 // Whether a command has so many words after its name; where it has not, its usage is told.
-pub fn wants(command: &[u8], words: usize, usage: &[u8]) -> bool {
+pub(crate) fn wants(command: &[u8], words: usize, usage: &[u8]) -> bool {
     if arguments(command) == words {
         return true;
     }
@@ -70,7 +78,7 @@ pub fn wants(command: &[u8], words: usize, usage: &[u8]) -> bool {
 }
 
 // Turns the blanks of a text into the bytes between words.
-pub fn part_words(text: &mut [u8]) {
+pub(crate) fn part_words(text: &mut [u8]) {
     let mut i: usize = 0;
     while i < text.len() {
         text[i] = parted(text[i]);

@@ -1,8 +1,7 @@
 // What a report's blocks cost in bytes, and what other blocks of the same rows would have cost.
-use crate::blocks;
-use crate::noted::ROWS;
 use account::Block;
-use element::ELEMENTS;
+use inspect::ROWS;
+use inspect::blocks::fill_rows;
 use words::print;
 ghost use Prim.Native.Nat.{_≤_};
 ghost use mathlib.Core.Path.{_≡_};
@@ -10,26 +9,6 @@ ghost use lib.ListN.{length};
 
 // The largest sum that is told apart.
 const LARGEST: u64 = 18446744073709551615;
-
-// Fills in the bytes of the values of each row of an index.
-pub fn fill_sizes(sets: &[u64], lengths: &[u16], sizes: &mut [u32])
-    ensures { λ r. ⌜ length (now (sizes .exit)) ≡ length (now (sizes .entry)) ⌝ }
-{
-    let mut row: usize = 0;
-    let mut first: usize = 0;
-    while row < sizes.len() {
-        if sets.len() <= row {
-            return;
-        }
-        if lengths.len() - first < ELEMENTS {
-            return;
-        }
-        let next = first + ELEMENTS;
-        sizes[row] = account::row_bytes(sets[row], &lengths[first..next]);
-        first = next;
-        row += 1;
-    }
-}
 
 // Prints the account of a packed report block by block, and what other blocks of the same rows would have cost.
 pub(crate) fn print_costs(report: &[u8], packed: &[u8], sets: &[u64], sizes: &[u32])
@@ -60,7 +39,7 @@ fn print_blocks(text: &[u8], sets: &[u64], sizes: &[u32])
     requires { ⌜ length (now sizes) ≡ length (now sets) ⌝ }
 {
     let mut rows = [0usize; ROWS];
-    let count = blocks::fill_rows(text, &mut rows);
+    let count = fill_rows(text, &mut rows);
     print_accounts(sets, sizes, &rows[..count]);
 }
 
@@ -83,7 +62,7 @@ fn cost_as_cut(text: &[u8], sets: &[u64], sizes: &[u32]) -> u64
     requires { ⌜ length (now sizes) ≡ length (now sets) ⌝ }
 {
     let mut rows = [0usize; ROWS];
-    let count = blocks::fill_rows(text, &mut rows);
+    let count = fill_rows(text, &mut rows);
     cost_of(sets, sizes, &rows[..count])
 }
 

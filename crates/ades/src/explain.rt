@@ -1,20 +1,20 @@
 // A refusal in words: its fixed line, the rule, the element's name, and the offending line with a mark under the field.
 use crate::line;
-use crate::place;
 use crate::request;
 use element::ELEMENTS;
+use inspect::line::column_of;
+use inspect::line::columns_before;
+use inspect::line::element_at;
+use inspect::line::field;
+use inspect::line::first_wrong;
+use inspect::part;
 use libc::STDOUT_FILENO;
 use refusal::Kind;
 use refusal::Refusal;
 use report::ROW_LIMIT;
 use report::TEXT_LIMIT;
-use text::lines::Field;
-use text::lines::field_at;
-use text::lines::is_printable;
 use text::lines::scan;
 use text::part::at;
-use text::part::front;
-use text::part::tail;
 use words::print;
 
 // The byte before the line feed of a text from some other systems.
@@ -47,13 +47,13 @@ pub fn explain(report: &[u8], refusal: Refusal) {
 
 // Prints the line of a number, counted from 0, with a mark.
 fn explain_line(report: &[u8], kind: Kind, number: usize, place: usize) {
-    let start = place::start(report, number, b'\n');
+    let start = part::start(report, number, b'\n');
     if report.len() <= start {
         print::bytes(b"The text ends before that line.\n");
         return;
     }
-    let text = place::part(report, start, b'\n');
-    let columns = place::part(report, columns_before(report, start), b'\n');
+    let text = part::part(report, start, b'\n');
+    let columns = part::part(report, columns_before(report, number), b'\n');
     match mark_of(kind) {
         Mark::Nothing => line::print_line(text),
         Mark::Byte => explain_byte(text),
@@ -123,69 +123,6 @@ fn explain_count(text: &[u8], columns: &[u8]) {
     print::number(scan(columns).fields as u64);
     print::bytes(b".\n");
     line::print_line(text);
-}
-
-// Where the first byte outside 0x20 to 0x7E stands in a line.
-fn first_wrong(text: &[u8]) -> usize {
-    let mut i: usize = 0;
-    while i < text.len() {
-        if is_printable(text[i]) {
-            i += 1;
-        } else {
-            return i;
-        }
-    }
-    i
-}
-
-// Where the column line starts that holds for the line at a place: after the last line before it that begins with `#`.
-fn columns_before(report: &[u8], start: usize) -> usize {
-    let mut columns: usize = 0;
-    let mut from: usize = 0;
-    while from < start {
-        let next = place::after(report, from, b'\n');
-        if next <= from {
-            return columns;
-        }
-        if at(report, from) == b'#' {
-            columns = next;
-        }
-        from = next;
-    }
-    columns
-}
-
-// The field of a line at a position, counted from 1; past the last one the last.
-fn field(text: &[u8], position: usize) -> Field {
-    let mut found = field_at(text, 0);
-    let mut k: usize = 1;
-    while k < position {
-        if text.len() <= found.till {
-            return found;
-        }
-        found = field_at(text, found.till + 1);
-        k += 1;
-    }
-    found
-}
-
-// The position of an element in a column line, counted from 1; 0 where it is not there.
-fn column_of(columns: &[u8], element: usize) -> usize {
-    let count = scan(columns).fields;
-    let mut k: usize = 0;
-    while k < count {
-        k += 1;
-        if element_at(columns, k) == element {
-            return k;
-        }
-    }
-    0
-}
-
-// The number of the element that a column line names at a position; 0 where it names none.
-fn element_at(columns: &[u8], position: usize) -> usize {
-    let name = field(columns, position);
-    element::name::number(front(tail(columns, name.start), name.length))
 }
 
 // What the place of a refusal of a kind is.

@@ -13,13 +13,13 @@ pub const SPACE: usize = TEXT_LIMIT + 1;
 const LONGEST: usize = 4000;
 
 // What reading came to: so many bytes, or a failure that has been told.
-pub enum Input {
+pub(crate) enum Input {
     Length(usize),
     Failed,
 }
 
 // Reads a file, or standard input for `-`, into the space, as much as there is room for.
-pub fn read(name: &[u8], space: &mut [u8]) -> Input {
+pub(crate) fn read(name: &[u8], space: &mut [u8]) -> Input {
     if same(name, b"-") {
         return read_open(STDIN_FILENO, name, space);
     }
@@ -52,7 +52,7 @@ fn read_open(file: i32, name: &[u8], space: &mut [u8]) -> Input {
 }
 
 // Writes a text to a file, under another name first, and then renames that; false where it failed, which has been told.
-pub fn write(name: &[u8], text: &[u8]) -> bool {
+pub(crate) fn write(name: &[u8], text: &[u8]) -> bool {
     if same(name, b"-") {
         error::tell(b"the output is a file, not -");
         return false;

@@ -1,12 +1,12 @@
 // `ades list`: every value of every observation.
 use crate::explain;
-use crate::noted;
-use crate::noted::ENTRIES;
-use crate::noted::ROWS;
 use crate::request;
 use element::ELEMENTS;
+use inspect::ENTRIES;
+use inspect::ROWS;
 use report::answer::Checked;
 use report::index::index;
+use report::index::value_of;
 use words::print;
 
 // Prints the observations of a report, or its refusal.
@@ -27,21 +27,20 @@ pub fn list(report: &[u8]) {
 fn list_rows(report: &[u8], count: usize, sets: &[u64], starts: &[u16], lengths: &[u16]) {
     let mut row: usize = 0;
     while row < count {
-        list_row(report, row, noted::set(sets, row), starts, lengths);
+        list_row(report, row, sets, starts, lengths);
         row += 1;
     }
 }
 
 // Prints an observation: the present elements, each with its value.
-fn list_row(report: &[u8], row: usize, set: u64, starts: &[u16], lengths: &[u16]) {
-    let mut left = set;
+fn list_row(report: &[u8], row: usize, sets: &[u64], starts: &[u16], lengths: &[u16]) {
     let mut element: usize = 0;
     print_heading(row);
     while element < ELEMENTS {
-        if left % 2 == 1 {
-            print_value(element, noted::value(report, starts, lengths, row, element));
-        }
-        left = left / 2;
+        print_value(
+            element,
+            value_of(report, sets, starts, lengths, row, element),
+        );
         element += 1;
     }
 }
@@ -55,8 +54,11 @@ fn print_heading(row: usize) {
     }
 }
 
-// Prints an element's name and its value.
+// Prints an element's name and its value; nothing where it is absent.
 fn print_value(element: usize, value: &[u8]) {
+    if value.len() == 0 {
+        return;
+    }
     if element < ELEMENTS {
         print::bytes(b"  ");
         request::print_name(element + 1);

@@ -2,7 +2,8 @@
 use crate::blocks;
 use crate::explain;
 use crate::file;
-use crate::noted::ROWS;
+use inspect::ROWS;
+use inspect::blocks::fill_rows;
 use pack::Packed;
 use report::TEXT_LIMIT;
 use text::part::front;
@@ -24,7 +25,7 @@ pub fn pack_into(name: &[u8], report: &[u8]) {
 fn keep(name: &[u8], packed: &[u8], length: usize) {
     if file::write(name, packed) {
         let mut rows = [0usize; ROWS];
-        let count = blocks::fill_rows(packed, &mut rows);
+        let count = fill_rows(packed, &mut rows);
         print::bytes(b"packed ");
         print::number(packed.len() as u64);
         print::bytes(b" from ");

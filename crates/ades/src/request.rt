@@ -1,18 +1,20 @@
 // What a command asks for: an element of an observation, as a person names them.
 use crate::command::word;
 use crate::error;
+use element::name::put_whole;
+use element::table::LONGEST;
 use text::part::front;
 use words::number::Number;
 use words::print;
 
 // An observation and an element by their numbers, or words that name none, which has been told.
-pub enum Request {
+pub(crate) enum Request {
     Of(usize, usize),
     Wrong,
 }
 
 // What the third and the fourth word of a command ask for.
-pub fn asked(command: &[u8]) -> Request {
+pub(crate) fn asked(command: &[u8]) -> Request {
     match words::number::read(word(command, 2)) {
         Number::Is(observation) => element_of(observation as usize, word(command, 3)),
         Number::Nothing => {
@@ -44,9 +46,9 @@ pub fn print_asked(observation: usize, element: usize) {
 
 // Prints the name of an element, by its number.
 pub fn print_name(element: usize) {
-    let mut name = [0u8; 8];
+    let mut name = [0u8; LONGEST];
     if 0 < element {
-        let length = element::name::put_name(element - 1, &mut name);
+        let length = put_whole(element - 1, &mut name);
         print::bytes(front(&name, length));
     }
 }

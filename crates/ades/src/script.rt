@@ -11,9 +11,9 @@ use crate::help;
 use crate::joining;
 use crate::listing;
 use crate::packing;
-use crate::place;
 use crate::showing;
 use crate::valuing;
+use inspect::part;
 use text::part::front;
 use text::part::same;
 
@@ -59,12 +59,12 @@ fn run(command: &[u8]) {
 fn obey_lines(text: &[u8]) {
     let mut at: usize = 0;
     while at < text.len() {
-        let command = place::part(text, at, b'\n');
+        let command = part::part(text, at, b'\n');
         if 0 < command.len() {
             command::echo(command);
             obey_one(command);
         }
-        at = place::after(text, at, b'\n');
+        at = part::after(text, at, b'\n');
     }
 }
 

@@ -134,9 +134,13 @@ module _ (index : ℕ) (h : index < elements) where
   pub name-bytes : every isNameByte (nameOf index) ≡ true
   name-bytes = every-name (every isNameByte) tt index h
 
--- A name has 16 bytes at most.
-pub name-short : (index : ℕ) → length (nameOf index) ≤ 16
+-- The bytes of the longest name.
+abbrev pub longest : ℕ
+longest = 8
+
+-- No name has more.
+pub name-short : (index : ℕ) → length (nameOf index) ≤ longest
 name-short index =
     bools (ltb index elements)
-    (λ t. leb-true _ 16 (every-name (λ name. leb (length name) 16) tt index (ltb-true index elements t)))
+    (λ t. leb-true _ longest (every-name (λ name. leb (length name) longest) tt index (ltb-true index elements t)))
     (λ t. rw (List·getD-eq-default names [] {n = index} (ltb-false index elements t)) (omega arith))

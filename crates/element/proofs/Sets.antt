@@ -15,7 +15,7 @@ use mir.Syntax.{w32}
 use mir.Val.{Fits}
 use Rattle.element.specs.Set.{has, joined, lengthIf, bytesIn, nameLengths, nameBytes}
 use Rattle.element.specs.Table.{elements, names, nameOf}
-use Rattle.element.proofs.Names.{name-short}
+use Rattle.element.proofs.Names.{longest, name-short}
 use Rattle.element.specs.Observation.{Observation, isPresent, isWgs84, isEarth, bit, setOf, faultIn, setFault, observationFault}
 
 -- ---- sets
@@ -119,7 +119,7 @@ name-length e = List·getD-map length names e []
 -- The names of any set are short.
 pub names-low : (set : ℕ) → nameBytes set ≤ 1024
 names-low set =
-    omega (arith, bytes-low 16 nameLengths set (λ e. omega (arith, name-length e, name-short e)), name-lengths-length)
+    omega (arith, bytes-low longest nameLengths set (λ e. omega (arith, name-length e, name-short e)), name-lengths-length)
 
 -- One name more: p is its length where its element is in the set.
 module _ {set left sum e : ℕ} (a : Adds nameLengths set left sum e) (h : e < elements) (l : ℕ) (n : l ≡ length (nameOf e)) (p : ℕ)

@@ -8,6 +8,9 @@ ghost use Rattle.element.specs.Table.{formOf};
 pub(crate) const NAMES: [u8; 147] =
     *b"permIDprovIDartSattrkSubobsIDobsSubIDmodestnsysctrpos1pos2pos3progobsTimermsTimeradecrmsRArmsDecrmsCorrastCatmagrmsMagbandphotCatphotApnotesremarks";
 
+// The bytes of the longest name.
+pub const LONGEST: usize = 8;
+
 // Where each name starts among all of them, and where the last one ends.
 pub(crate) const STARTS: [u8; ELEMENTS + 1] = [
     0,

@@ -6,7 +6,7 @@ use mathlib.Core.Bool.{true, cond}
 use mathlib.Core.List.{List, [], _∷_}
 use native.Mathlib.Omega.{arith}
 use lib.Dec.{eqb, ltb}
-use lib.ListN.{length, take, drop, getD, set, replicate, length-set, length-replicate}
+use lib.ListN.{length, take, drop, getD, set, replicate, length-set}
 use lib.Seq.{getD-set-other, getD-set-same, set-out}
 use borrow.Author.Tests.{eqb-true, eqb-false, ltb-true, ltb-false}
 use Rattle.text.specs.Part.{same}
@@ -22,6 +22,7 @@ use Rattle.element.specs.declared.form.Check.the-variants.{Fine, Bad}
 use Rattle.report.specs.declared.state.Need.{Need}
 use Rattle.report.specs.declared.state.Need.the-variants as Need
 use Rattle.report.specs.Report.{rowLimit, versionLine, isHash, State, Step, next, row, bad, member, columnsFrom, orNext, fieldFault, fill, rowOf, rowUnless, dataLine, opened, other, step, accepted, afterRow, after, readFrom, begin, read}
+use Rattle.report.proofs.Long.{row-long}
 use Rattle.report.proofs.Join.{bad≢row, next≢row, refused≢accepted, more-accepted, end-opens, read-accepted}
 use Rattle.element.proofs.Forms.{fault-absent}
 use Rattle.layout.proofs.FieldLaws.{isClean, Cleans, none, one, trim-twice, clean-trim, fields-clean}
@@ -110,13 +111,6 @@ fill-right (c ∷ cs) fs p o h (one {f = f} {fs = gs} k ks) v =
     fill-right cs gs (suc p) (put o c (trim f)) (q .1) ks
     (put-right o c (trim f) (record { fine = q .0; trimmed = trim-twice f; clean = clean-trim f k }) v)
 
--- A row that is filled keeps its places.
-pub fill-length : (cs : List ℕ) (fs : List (List ℕ)) (o : Observation) → length (fill cs fs o) ≡ length o
-unfolding fill
-fill-length [] fs o = refl
-fill-length (c ∷ cs) [] o = refl
-fill-length (c ∷ cs) (f ∷ fs) o = fill-length cs fs (put o c (trim f)) ∙ put-length o c (trim f)
-
 -- Without a fault the observation is the row.
 unless-sound : (f g : Fault) (o r : Observation) → rowUnless f g o ≡ row r → (f ≡ Sound) × (g ≡ Sound) × (o ≡ r)
 unless-sound (At k p) g o r h = absurd (bad≢row h)
@@ -147,7 +141,7 @@ data-taken columns k l o h =
 -- Its observation is right.
 right-data : (columns : List ℕ) (k : ℕ) (l : List ℕ) (o : Observation) → printable l ≡ true → Taken columns k l o → Right o
 right-data columns k l o p t = record {
-  long = ap length (sym (t .is)) ∙ (fill-length columns (fields l) (replicate elements []) ∙ length-replicate {A = List ℕ} elements []);
+  long = ap length (sym (t .is)) ∙ row-long columns (fields l);
   sound = t .sound;
   values = λ c. rw (t .is) at (fill-right columns (fields l) 1 (replicate elements []) (t .fine) (fields-clean l p) (λ e. rw (blank-at elements e) (absent-right e)) c);
 }

@@ -27,7 +27,8 @@ use Rattle.element.proofs.Names.{index-name, every-name}
 use Rattle.element.proofs.Forms.{unhashed}
 use Rattle.layout.proofs.ColumnLaws.{or-second, member-all, isDistinct, columns-below, columns-distinct, present-columns}
 use Rattle.layout.proofs.FieldLaws.{isClean, Cleans, none, one, fields-barred, barred-printable, lines-line-of}
-use Rattle.layout.proofs.Accepted.{Right, AllRight, put, put-length, blank-at, fill-length}
+use Rattle.report.proofs.Long.{row-long}
+use Rattle.layout.proofs.Accepted.{Right, AllRight, put, put-length, blank-at}
 
 -- The column line.
 
@@ -195,7 +196,7 @@ fill-at o r (c ∷ cs) x e b h a =
 row-filled : (columns : List ℕ) (o : Observation) → Right o → Under columns o → rowOf columns (valuesAt columns o) ≡ o
 row-filled columns o r u =
     let n : length (rowOf columns (valuesAt columns o)) ≡ elements =
-    fill-length columns (valuesAt columns o) (replicate elements []) ∙ length-replicate {A = List ℕ} elements [] in
+    row-long columns (valuesAt columns o) in
     ext-getD [] (rowOf columns (valuesAt columns o)) o (n ∙ sym (r .long))
     (λ e b. fill-at o r columns (replicate elements []) e (omega (arith, b, n, length-replicate {A = List ℕ} elements []))
     (λ m. blank-at elements e ∙ sym (unseen e m)) (λ p. blank-at elements e))

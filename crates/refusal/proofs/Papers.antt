@@ -6,7 +6,8 @@ use lib.ListN.{getD}
 use Rattle.refusal.specs.Number.{numberOf}
 use Rattle.refusal.specs.Paper.{reasons, Paper, paper}
 use Rattle.refusal.specs.declared.Kind.{Kind}
-use Rattle.refusal.specs.declared.Kind.the-variants.{TextTooLong, NoLineEnd, WrongByte, VersionExpected, BlockUnfinished, UnknownColumn, ColumnTwice, TooWide, WrongForm, OutOfRange, ElementMissing, GroupIncomplete, CentreNotEarth, TooManyRows, OutputTooShort, NoObservation, NoElement, FieldCountDiffers}
+use Rattle.refusal.specs.declared.Kind.the-variants.{TextTooLong, NoLineEnd, WrongByte, VersionExpected, BlockUnfinished, UnknownColumn, ColumnTwice, TooWide, WrongForm}
+use Rattle.refusal.specs.declared.Kind.the-variants.{OutOfRange, ElementMissing, GroupIncomplete, CentreNotEarth, TooManyRows, OutputTooShort, NoObservation, NoElement, FieldCountDiffers}
 use Rattle.refusal.specs.declared.Refusal.{Refusal}
 
 -- The table's reasons are numbered from 1 to 18.

@@ -20,5 +20,8 @@ use Rattle.report.specs.Report.{Outcome, columnsFrom, dataLine, fieldFau
 
 -- What a text reads as.
 unfoldable pub reading : List ℕ → Outcome
-unfolding read readFrom step columnsFrom dataLine fieldFault fill same starts indexOf indexIn faultOf valueOf alphanumeric leading isOnly mode system centre isInteger lessMinus decimal decimalIn isTooWide obsTime dayOf fraction isFraction isMoment isTime isTimeEnd microseconds dayNumber isDate isLeap monthDays monthLength yearDays rightAscension declination isDegrees isRightAscension units isDecimal isPointed places isCount isDigits part bare withSign after number observationFault faultIn firstMissing groupFault groupMissing holdsAny isEarth isWgs84
+unfolding read readFrom step columnsFrom dataLine fieldFault fill same starts indexOf indexIn faultOf valueOf alphanumeric leading isOnly mode system
+    centre isInteger lessMinus decimal decimalIn isTooWide obsTime dayOf fraction isFraction isMoment isTime isTimeEnd microseconds dayNumber isDate
+    isLeap monthDays monthLength yearDays rightAscension declination isDegrees isRightAscension units isDecimal isPointed places isCount isDigits part
+    bare withSign after number observationFault faultIn firstMissing groupFault groupMissing holdsAny isEarth isWgs84
 reading text = read text

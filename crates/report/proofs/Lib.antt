@@ -5,6 +5,7 @@ pub mod IndexLaws
 pub mod Join
 pub mod LineSteps
 pub mod OneAnswer
+pub mod Long
 pub mod ReaderLaws
 pub mod RowLaws
 pub mod Shams

@@ -5,10 +5,10 @@ use Rattle.ades.proofs.listing.list_row.Statement.{statement}
 use Rattle.ades.proofs.listing.list_row.Tie as tie
 
 abbrev Inv-loop : tie.InvT-loop
-Inv-loop report row set starts lengths left₀ element₀ left element = Unit {0}
+Inv-loop report row sets starts lengths element₀ element = Unit {0}
 
 abbrev μ-loop : tie.MeasureT-loop
-μ-loop report row set starts lengths left₀ element₀ left element = 29 - element
+μ-loop report row sets starts lengths element₀ element = 29 - element
 
 print-heading-requires : tie.Need-print-heading-requires Inv-loop μ-loop
 print-heading-requires c κs = search needs
@@ -16,8 +16,8 @@ print-heading-requires c κs = search needs
 loop-holds : tie.Need-loop-holds Inv-loop μ-loop
 loop-holds c = search needs
 
-value-requires : tie.Need-value-requires Inv-loop μ-loop
-value-requires c κs = search needs
+value-of-requires : tie.Need-value-of-requires Inv-loop μ-loop
+value-of-requires c κs = search needs
 
 print-value-requires : tie.Need-print-value-requires Inv-loop μ-loop
 print-value-requires c κs = search needs
@@ -42,7 +42,7 @@ list-row-spec =
     μ-loop
     print-heading-requires
     loop-holds
-    value-requires
+    value-of-requires
     print-value-requires
     add-element
     loop-less

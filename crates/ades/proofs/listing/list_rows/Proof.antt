@@ -13,9 +13,6 @@ abbrev μ-loop : tie.MeasureT-loop
 loop-holds : tie.Need-loop-holds Inv-loop μ-loop
 loop-holds c = search needs
 
-set-requires : tie.Need-set-requires Inv-loop μ-loop
-set-requires c κs = search needs
-
 list-row-requires : tie.Need-list-row-requires Inv-loop μ-loop
 list-row-requires c κs = search needs
 
@@ -38,7 +35,6 @@ list-rows-spec =
     Inv-loop
     μ-loop
     loop-holds
-    set-requires
     list-row-requires
     add-row
     loop-less

@@ -2,6 +2,7 @@
 use Prim.Native.Nat.{_-_}
 use lib.ListN.{length}
 use native.Mathlib.Omega.{arith}
+use Rattle.inspect.proofs.PartLaws.{after-within, after-further}
 use borrow.Author.Needs.{needs}
 use Rattle.ades.proofs.script.obey_lines.Statement.{statement}
 use Rattle.ades.proofs.script.obey_lines.Tie as tie
@@ -28,7 +29,10 @@ after-requires : tie.Need-after-requires Inv-loop μ-loop
 after-requires c κs = search needs
 
 loop-less : tie.Need-loop-less Inv-loop μ-loop
-loop-less c = omega (arith, c .after .ensures .0 (c .before .before .before .loop-test .taken), c .after .ensures .1)
+loop-less c =
+    let text = c .before .before .before .before .before .before .args .text .now in
+    let at = c .before .before .before .before .loop .at in
+    omega (arith, c .after .ensures, after-within text at 10, after-further text at 10 (c .before .before .before .loop-test .taken))
 
 loop-again : tie.Need-loop-again Inv-loop μ-loop
 loop-again c = search needs

@@ -35,7 +35,10 @@ same-requires : tie.Need-same-requires
 same-requires c κs = search needs
 
 returns : tie.Need-returns
-returns c = rw (c .same .ensures, c .before .before .before .before .before .before .before .pre .1, c .before .before .before .before .before .before .before .pre .0, cut-is (c .before .before .before .before .before .before .before .args .index) (c .before .before .before .before .before .before .before .pre .2))
+returns c =
+    let pre = c .before .before .before .before .before .before .before .pre in
+    let args = c .before .before .before .before .before .before .before .args in
+    rw (c .same .ensures, pre .1, pre .0, cut-is (args .index) (pre .2))
 
 pub is-name-spec : {M : Type 1} → statement M
 is-name-spec =

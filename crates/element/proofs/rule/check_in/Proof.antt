@@ -154,7 +154,11 @@ returns-9 : tie.Need-returns-9
 returns-9 c = rw (c .before .before .enum-told7 .given .1, c .check-of8 .ensures, c .before .centre .ensures)
 
 returns-10 : tie.Need-returns-10
-returns-10 c = rw (c .before .before .before .form3 .given .1, c .check-of9 .ensures, c .before .check-decimal .ensures) (less-check (decimal (c .before .before .before .form3 .given .0 .0) (c .before .before .before .form3 .given .0 .1 .0) (c .before .before .before .before .before .before .args .text .now)))
+returns-10 c =
+    let form3 = c .before .before .before .form3 in
+    let check-decimal = c .before .check-decimal in
+    let args = c .before .before .before .before .before .before .args in
+    rw (form3 .given .1, c .check-of9 .ensures, check-decimal .ensures) (less-check (decimal (form3 .given .0 .0) (form3 .given .0 .1 .0) (args .text .now)))
 
 returns-11 : tie.Need-returns-11
 returns-11 c = rw (c .before .before .enum-told8 .given .1, c .check-of10 .ensures, c .before .correlation .ensures)

@@ -88,7 +88,10 @@ add-rows c =
     let join = c .before .before .before .before .before .before .before .before .before .before .before .before .before .join in
     let list-columns = c .before .before .before .before .before .before .before .before .before .before .before .list-columns in
     let write-version = c .before .before .before .before .before .before .before .write-version in
-    omega (arith, output-fits (c .before .before .before .before .before .before .before .before .before .before .before .before .before .before .before .before .before .before .before .before .before), write-names .ensures .answer-is, names-room (pre .0) (block-columns (pre .0) (join .ensures) (list-columns .ensures)) (write-version .ensures), write-length (after-version (pre .0) (block-columns (pre .0) (join .ensures) (list-columns .ensures)) (write-version .ensures)))
+    let start = c .before .before .before .before .before .before .before .before .before .before .before .before .before .before .before .before .before .before .before .before .before in
+    let columns = block-columns (pre .0) (join .ensures) (list-columns .ensures) in
+    omega
+    (arith, output-fits start, write-names .ensures .answer-is, names-room (pre .0) columns (write-version .ensures), write-length (after-version (pre .0) columns (write-version .ensures)))
 
 slice-reshare-prefix-write-rows : tie.Need-slice-reshare-prefix-write-rows
 slice-reshare-prefix-write-rows c =
@@ -132,14 +135,16 @@ write-rows-requires c κs =
 
 add-result : tie.Need-add-result
 add-result c =
-    let before = c .before .before .before .before .before .before .before .before .before .before .before .before .before .before .before .before .before .before .before .before .before .before .before .before .before .before in
+    let start = c .before .before .before .before .before .before .before .before .before .before .before .before .before .before .before .before .before .before .before .before .before .before .before .before .before .before in
     let write-rows = c .before .before .write-rows in
     let pre = c .before .before .before .before .before .before .before .before .before .before .before .before .before .before .before .before .before .before .before .before .before .before .before .before .before .before .pre in
     let join = c .before .before .before .before .before .before .before .before .before .before .before .before .before .before .before .before .before .before .join in
     let list-columns = c .before .before .before .before .before .before .before .before .before .before .before .before .before .before .before .before .list-columns in
     let write-version = c .before .before .before .before .before .before .before .before .before .before .before .before .write-version in
     let write-names = c .before .before .before .before .before .before .before .write-names in
-    omega (arith, output-fits (before), write-rows .ensures .answer-is, last-room _ (write-next _ _ (after-version (pre .0) (block-columns (pre .0) (join .ensures) (list-columns .ensures)) (write-version .ensures)) (write-names .ensures)), write-length (write-next _ _ (after-version (pre .0) (block-columns (pre .0) (join .ensures) (list-columns .ensures)) (write-version .ensures)) (write-names .ensures)))
+    let columns = block-columns (pre .0) (join .ensures) (list-columns .ensures) in
+    let named = write-next _ _ (after-version (pre .0) columns (write-version .ensures)) (write-names .ensures) in
+    omega (arith, output-fits start, write-rows .ensures .answer-is, last-room _ named, write-length named)
 
 same-length : tie.Need-same-length
 same-length c = search needs

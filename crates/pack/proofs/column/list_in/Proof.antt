@@ -27,13 +27,23 @@ shared-slice-read-element : tie.Need-shared-slice-read-element Inv-loop μ-loop
 shared-slice-read-element c = c .before .loop-test .taken
 
 is-in-requires : tie.Need-is-in-requires Inv-loop μ-loop
-is-in-requires c κs = omega (arith, ap (λ (l : List ℕ). getD l (c .before .before .loop .k) 0) (c .before .before .before .before .before .pre .0), order-known (c .before .before .loop .k) (omega (arith, order-length (c .before .before .before .before .before .args .order .now) (c .before .before .before .before .before .pre .0), c .before .loop-test .taken)))
+is-in-requires c κs =
+    let loop = c .before .before .loop in
+    let pre = c .before .before .before .before .before .pre in
+    let args = c .before .before .before .before .before .args in
+    let loop-test = c .before .loop-test in
+    omega (arith, ap (λ (l : List ℕ). getD l (loop .k) 0) (pre .0), order-known (loop .k) (omega (arith, order-length (args .order .now) (pre .0), loop-test .taken)))
 
 mul-columns : tie.Need-mul-columns Inv-loop μ-loop
 mul-columns c = omega (arith, c .before .before .before .before .loop .inv .few, c .before .before .before .before .loop .inv .most)
 
 slice-write-columns : tie.Need-slice-write-columns Inv-loop μ-loop
-slice-write-columns c = omega (arith, c .before .before .before .before .loop .inv .few, c .before .before .before .before .loop .inv .long, order-length (c .before .before .before .before .before .before .before .args .order .now) (c .before .before .before .before .before .before .before .pre .0), c .before .before .before .loop-test .taken)
+slice-write-columns c =
+    let loop = c .before .before .before .before .loop in
+    let args = c .before .before .before .before .before .before .before .args in
+    let pre = c .before .before .before .before .before .before .before .pre in
+    let loop-test = c .before .before .before .loop-test in
+    omega (arith, loop .inv .few, loop .inv .long, order-length (args .order .now) (pre .0), loop-test .taken)
 
 add-n : tie.Need-add-n Inv-loop μ-loop
 add-n c = omega (arith, c .before .before .before .before .loop .inv .few, c .before .before .before .before .loop .inv .most)
@@ -45,7 +55,17 @@ loop-less : tie.Need-loop-less Inv-loop μ-loop
 loop-less c = omega (arith, c .before .before .before .loop-test .taken)
 
 loop-again : tie.Need-loop-again Inv-loop μ-loop
-loop-again c = ⊎-elim (λ w. rw (w .1, w .2) (list-in (c .before .before .before .before .loop .inv) (omega (arith, order-length (c .before .before .before .before .before .before .before .args .order .now) (c .before .before .before .before .before .before .before .pre .0), c .before .before .before .loop-test .taken)) _ (ap (λ (l : List ℕ). getD l (c .before .before .before .before .loop .k) 0) (c .before .before .before .before .before .before .before .pre .0)) (sym (c .before .is-in .ensures) ∙ w .0 .taken))) (λ w. rw (w .1, w .2) (list-out (c .before .before .before .before .loop .inv) (omega (arith, order-length (c .before .before .before .before .before .before .before .args .order .now) (c .before .before .before .before .before .before .before .pre .0), c .before .before .before .loop-test .taken)) _ (ap (λ (l : List ℕ). getD l (c .before .before .before .before .loop .k) 0) (c .before .before .before .before .before .before .before .pre .0)) (sym (c .before .is-in .ensures) ∙ w .0 .left))) (c .if1 .came)
+loop-again c =
+    let loop = c .before .before .before .before .loop in
+    let args = c .before .before .before .before .before .before .before .args in
+    let pre = c .before .before .before .before .before .before .before .pre in
+    let loop-test = c .before .before .before .loop-test in
+    let is-in = c .before .is-in in
+    let next = ap (λ (l : List ℕ). getD l (loop .k) 0) (pre .0) in
+    ⊎-elim
+    (λ w. rw (w .1, w .2) (list-in (loop .inv) (omega (arith, order-length (args .order .now) (pre .0), loop-test .taken)) _ next (sym (is-in .ensures) ∙ w .0 .taken)))
+    (λ w. rw (w .1, w .2) (list-out (loop .inv) (omega (arith, order-length (args .order .now) (pre .0), loop-test .taken)) _ next (sym (is-in .ensures) ∙ w .0 .left)))
+    (c .if1 .came)
 
 same-length : tie.Need-same-length Inv-loop μ-loop
 same-length c = c .before .loop .inv .long ∙ sym (c .before .before .before .before .pre .1)

@@ -36,7 +36,12 @@ same-length-2 : tie.Need-same-length-2
 same-length-2 c = search needs
 
 returns-2 : tie.Need-returns-2
-returns-2 c = stand-put _ _ _ _ _ _ _ (c .before .before .before .before .before .before .standing-end .ensures (c .before .before .before .before .before .if1 .left)) (c .before .before .before .before .before .before .before .before .before .before .before .before .before .before .pre .room) (c .before .before .put .ensures)
+returns-2 c =
+    let standing-end = c .before .before .before .before .before .before .standing-end in
+    let if1 = c .before .before .before .before .before .if1 in
+    let pre = c .before .before .before .before .before .before .before .before .before .before .before .before .before .before .pre in
+    let put = c .before .before .put in
+    stand-put _ _ _ _ _ _ _ (standing-end .ensures (if1 .left)) (pre .room) (put .ensures)
 
 pub write-line-spec : {M : Type 1} → statement M
 write-line-spec =

@@ -45,13 +45,17 @@ shared-slice-read-value-of c = search needs
 value-of-requires : tie.Need-value-of-requires Inv-loop μ-loop
 value-of-requires c κs = search needs
 
+-- The function's entry, from where a value was read.
+abbrev entry : tie.After-value-of Inv-loop μ-loop → tie.Start Inv-loop μ-loop
+entry c = c .before .before .before .before .before .before .before .before .before .before .before
+
 -- The value that was read off the index is the row's.
 value-read : (c : tie.After-value-of Inv-loop μ-loop)
     → now (c .value-of .result)
-    ≡ valueIn (c .before .before .before .before .before .before .before .before .before .before .before .args .report .now) (c .before .before .before .before .before .before .before .before .before .before .before .args .row) (getD (c .before .before .before .before .before .before .before .before .before .before .before .args .columns .now) (c .before .before .before .before .loop .k) 0)
+    ≡ valueIn (entry c .args .report .now) (entry c .args .row) (getD (entry c .args .columns .now) (c .before .before .before .before .loop .k) 0)
 value-read c =
-    let args = c .before .before .before .before .before .before .before .before .before .before .before .args in
-    let pre = c .before .before .before .before .before .before .before .before .before .before .before .pre in
+    let args = entry c .args in
+    let pre = entry c .pre in
     let k = c .before .before .before .before .loop .k in
     c .value-of .ensures ∙ value-is (args .row) (getD (args .columns .now) k 0) (pre .indexed) (pre .inside) (pre .columns-are .known k (c .before .before .before .loop-test .taken))
 
@@ -87,7 +91,10 @@ add-at c =
     let loop = c .before .before .before .before .before .before .before .before .loop in
     let end-of = c .before .before .before .before .before .before .end-of in
     let loop-test = c .before .before .before .before .before .before .before .loop-test in
-    omega (arith, output-fits (c .before .before .before .before .before .before .before .before .before .before .before .before .before .before .before), (rw read at (write-field .ensures)) .answer-is, length-append (valueIn (args .report .now) (args .row) (getD (args .columns .now) (loop .k) 0)) (end-of .result ∷ []), line-room (valueIn (args .report .now) (args .row)) (args .columns .now) (loop-test .taken) (loop .inv .1), write-length (loop .inv .1))
+    let start = c .before .before .before .before .before .before .before .before .before .before .before .before .before .before .before in
+    let value = valueIn (args .report .now) (args .row) in
+    omega
+    (arith, output-fits start, (rw read at (write-field .ensures)) .answer-is, length-append (value (getD (args .columns .now) (loop .k) 0)) (end-of .result ∷ []), line-room value (args .columns .now) (loop-test .taken) (loop .inv .1), write-length (loop .inv .1))
 
 add-k : tie.Need-add-k Inv-loop μ-loop
 add-k c = search needs

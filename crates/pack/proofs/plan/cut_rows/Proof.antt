@@ -1,5 +1,5 @@
 -- `pack::plan::cut_rows` meets its contract.
-use mathlib.Core.Path.{sym, _∙_}
+use mathlib.Core.Path.{_≡_, sym, _∙_}
 use native.Mathlib.Omega.{arith}
 use lib.Seq.{length-take-le}
 use Rattle.pack.proofs.SizeLaws.{sizes-filled, filled-room}
@@ -49,7 +49,7 @@ returns c =
     let pre = c .before .before .before .before .before .before .before .before .before .before .before .before .before .before .pre in
     let shortest = c .before .before .shortest in
     let long = fill-sizes .kept .1 .1 .0 ∙ length-take-le (args .rows) (args .sizes .now) (pre .2) in
-    let all = omega (arith, fill-sizes .ensures .0, length-take-le (args .rows) (args .sizes .now) (pre .2), pre .0, pre .1) in
+    let all : fill-sizes .result ≡ args .rows = omega (arith, fill-sizes .ensures .0, length-take-le (args .rows) (args .sizes .now) (pre .2), pre .0, pre .1) in
     record {
       filled = filled-room (fill-sizes .last .1 .1 .0) _ _ long;
       sizes-are = sizes-filled _ (fill-sizes .ensures .1) all long;

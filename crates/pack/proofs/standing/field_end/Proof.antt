@@ -42,13 +42,28 @@ wide-requires-2 : tie.Need-wide-requires-2
 wide-requires-2 c κs = search needs
 
 add-byte-end : tie.Need-add-byte-end
-add-byte-end c = omega (arith, value-inside (c .before .before .before .before .before .before .before .before .before .before .before .before .args .row) (c .before .before .before .before .before .before .before .before .before .before .before .before .args .element) (c .before .before .before .before .before .before .before .before .before .before .before .before .pre .0) (c .before .before .before .before .before .before .before .before .before .before .before .before .pre .1) (c .before .before .before .before .before .before .before .before .before .before .before .before .pre .2) (eqb-true _ 1 (sym (c .before .before .before .before .before .before .is-in .ensures) ∙ c .before .before .before .before .before .if1 .taken)), c .before .before .before .wide .ensures, c .wide2 .ensures, c .before .before .if2 .taken)
+add-byte-end c =
+    let args = c .before .before .before .before .before .before .before .before .before .before .before .before .args in
+    let pre = c .before .before .before .before .before .before .before .before .before .before .before .before .pre in
+    let is-in = c .before .before .before .before .before .before .is-in in
+    let if1 = c .before .before .before .before .before .if1 in
+    let wide = c .before .before .before .wide in
+    let if2 = c .before .before .if2 in
+    omega (arith, value-inside (args .row) (args .element) (pre .0) (pre .1) (pre .2) (eqb-true _ 1 (sym (is-in .ensures) ∙ if1 .taken)), wide .ensures, c .wide2 .ensures, if2 .taken)
 
 byte-end-requires : tie.Need-byte-end-requires
 byte-end-requires c κs = search needs
 
 returns : tie.Need-returns
-returns c = field-there (c .before .before .before .before .before .before .before .before .before .before .before .before .before .args .row) (c .before .before .before .before .before .before .before .before .before .before .before .before .before .args .element) (c .before .before .before .before .before .before .before .before .before .before .before .before .before .pre .0) (c .before .before .before .before .before .before .before .before .before .before .before .before .before .pre .1) _ _ _ (c .before .before .before .before .before .before .before .before .before .before .before .before .before .pre .2) (eqb-true _ 1 (sym (c .before .before .before .before .before .before .before .is-in .ensures) ∙ c .before .before .before .before .before .before .if1 .taken)) _ _ (c .before .before .before .before .wide .ensures) (c .before .before .before .if2 .taken) (c .before .wide2 .ensures) (c .byte-end .ensures)
+returns c =
+    let args = c .before .before .before .before .before .before .before .before .before .before .before .before .before .args in
+    let pre = c .before .before .before .before .before .before .before .before .before .before .before .before .before .pre in
+    let is-in = c .before .before .before .before .before .before .before .is-in in
+    let if1 = c .before .before .before .before .before .before .if1 in
+    let wide = c .before .before .before .before .wide in
+    let if2 = c .before .before .before .if2 in
+    let wide2 = c .before .wide2 in
+    field-there (args .row) (args .element) (pre .0) (pre .1) _ _ _ (pre .2) (eqb-true _ 1 (sym (is-in .ensures) ∙ if1 .taken)) _ _ (wide .ensures) (if2 .taken) (wide2 .ensures) (c .byte-end .ensures)
 
 returns-2 : tie.Need-returns-2
 returns-2 c = λ h. absurd (h refl)
@@ -57,7 +72,12 @@ byte-end-requires-2 : tie.Need-byte-end-requires-2
 byte-end-requires-2 c κs = search needs
 
 returns-3 : tie.Need-returns-3
-returns-3 c = field-absent (c .before .before .before .before .before .before .before .before .args .row) (c .before .before .before .before .before .before .before .before .args .element) (c .before .before .before .before .before .before .before .before .pre .0) (c .before .before .before .before .before .before .before .before .pre .1) _ _ _ (eqb-false _ 1 (sym (c .before .before .is-in .ensures) ∙ c .before .if1 .left)) (c .byte-end2 .ensures)
+returns-3 c =
+    let args = c .before .before .before .before .before .before .before .before .args in
+    let pre = c .before .before .before .before .before .before .before .before .pre in
+    let is-in = c .before .before .is-in in
+    let if1 = c .before .if1 in
+    field-absent (args .row) (args .element) (pre .0) (pre .1) _ _ _ (eqb-false _ 1 (sym (is-in .ensures) ∙ if1 .left)) (c .byte-end2 .ensures)
 
 pub field-end-spec : {M : Type 1} → statement M
 field-end-spec =

@@ -31,16 +31,30 @@ is-in-requires : tie.Need-is-in-requires Inv-loop μ-loop
 is-in-requires c κs = omega (arith, c .before .before .before .before .before .before .before .before .before .pre .2 .known (c .before .before .before .loop .k) (c .before .before .loop-test .taken))
 
 mul-wide : tie.Need-mul-wide Inv-loop μ-loop
-mul-wide c = omega (arith, c .before .before .before .before .before .before .before .before .before .before .before .pre .1, c .before .before .before .before .before .before .before .before .before .before .before .pre .0 .sets-room, c .before .before .before .before .before .before .before .before .before .before .before .pre .0 .starts-room)
+mul-wide c =
+    let pre = c .before .before .before .before .before .before .before .before .before .before .before .pre in
+    omega (arith, pre .1, pre .0 .sets-room, pre .0 .starts-room)
 
 add-wide : tie.Need-add-wide Inv-loop μ-loop
-add-wide c = omega (arith, c .before .before .before .before .before .before .before .before .before .before .before .pre .1, c .before .before .before .before .before .before .before .before .before .before .before .pre .0 .starts-room, c .before .before .before .before .before .before .before .before .before .before .before .pre .2 .known (c .before .before .before .before .before .loop .k) (c .before .before .before .before .loop-test .taken))
+add-wide c =
+    let pre = c .before .before .before .before .before .before .before .before .before .before .before .pre in
+    let loop = c .before .before .before .before .before .loop in
+    let loop-test = c .before .before .before .before .loop-test in
+    omega (arith, pre .1, pre .0 .starts-room, pre .2 .known (loop .k) (loop-test .taken))
 
 mul-wide-2 : tie.Need-mul-wide-2 Inv-loop μ-loop
-mul-wide-2 c = omega (arith, c .before .before .before .before .before .before .before .before .before .before .before .pre .1, c .before .before .before .before .before .before .before .before .before .before .before .pre .0 .starts-room, c .before .before .before .before .before .before .before .before .before .before .before .pre .2 .known (c .before .before .before .before .before .loop .k) (c .before .before .before .before .loop-test .taken))
+mul-wide-2 c =
+    let pre = c .before .before .before .before .before .before .before .before .before .before .before .pre in
+    let loop = c .before .before .before .before .before .loop in
+    let loop-test = c .before .before .before .before .loop-test in
+    omega (arith, pre .1, pre .0 .starts-room, pre .2 .known (loop .k) (loop-test .taken))
 
 shared-slice-read-wide : tie.Need-shared-slice-read-wide Inv-loop μ-loop
-shared-slice-read-wide c = omega (arith, c .before .before .before .before .before .before .before .before .before .before .before .before .pre .1, c .before .before .before .before .before .before .before .before .before .before .before .before .pre .0 .starts-room, c .before .before .before .before .before .before .before .before .before .before .before .before .pre .2 .known (c .before .before .before .before .before .before .loop .k) (c .before .before .before .before .before .loop-test .taken))
+shared-slice-read-wide c =
+    let pre = c .before .before .before .before .before .before .before .before .before .before .before .before .pre in
+    let loop = c .before .before .before .before .before .before .loop in
+    let loop-test = c .before .before .before .before .before .loop-test in
+    omega (arith, pre .1, pre .0 .starts-room, pre .2 .known (loop .k) (loop-test .taken))
 
 wide-requires : tie.Need-wide-requires Inv-loop μ-loop
 wide-requires c κs = search needs

@@ -34,7 +34,11 @@ shared-slice-read-field-end : tie.Need-shared-slice-read-field-end Inv-loop μ-l
 shared-slice-read-field-end c = search needs
 
 field-end-requires : tie.Need-field-end-requires Inv-loop μ-loop
-field-end-requires c κs = (c .before .before .before .before .before .before .before .before .before .pre .0, c .before .before .before .before .before .before .before .before .before .pre .1, c .before .before .before .before .before .before .before .before .before .pre .2 .known (c .before .before .before .loop .k) (c .before .before .loop-test .taken))
+field-end-requires c κs =
+    let pre = c .before .before .before .before .before .before .before .before .before .pre in
+    let loop = c .before .before .before .loop in
+    let loop-test = c .before .before .loop-test in
+    (pre .0, pre .1, pre .2 .known (loop .k) (loop-test .taken))
 
 returns : tie.Need-returns Inv-loop μ-loop
 returns c = λ h. absurd (h refl)
@@ -46,10 +50,22 @@ loop-less : tie.Need-loop-less Inv-loop μ-loop
 loop-less c = search needs
 
 loop-again : tie.Need-loop-again Inv-loop μ-loop
-loop-again c = (omega arith, stand-more (valueIn (c .before .before .before .before .before .before .before .before .before .before .before .args .report .now) (c .before .before .before .before .before .before .before .before .before .before .before .args .row)) (c .before .before .before .before .before .before .before .before .before .before .before .args .columns .now) _ _ _ _ _ _ (c .before .before .before .before .loop-test .taken) (c .before .before .before .end-of .ensures) (c .before .before .before .before .before .loop .inv .1) (c .before .field-end .ensures (c .if1 .left)))
+loop-again c =
+    let args = c .before .before .before .before .before .before .before .before .before .before .before .args in
+    let loop-test = c .before .before .before .before .loop-test in
+    let end-of = c .before .before .before .end-of in
+    let loop = c .before .before .before .before .before .loop in
+    let field-end = c .before .field-end in (
+      omega arith,
+      stand-more (valueIn (args .report .now) (args .row)) (args .columns .now) _ _ _ _ _ _ (loop-test .taken) (end-of .ensures) (loop .inv .1) (field-end .ensures (c .if1 .left)),
+    )
 
 returns-2 : tie.Need-returns-2 Inv-loop μ-loop
-returns-2 c = λ h. stand-end (valueIn (c .before .before .before .before .before .before .before .args .report .now) (c .before .before .before .before .before .before .before .args .row)) (c .before .before .before .before .before .before .before .args .columns .now) _ _ _ _ (c .before .before .before .before .before .before .before .pre .2 .some) (c .before .loop .inv .0) (c .loop-test .left) (c .before .loop .inv .1)
+returns-2 c =
+    let args = c .before .before .before .before .before .before .before .args in
+    let pre = c .before .before .before .before .before .before .before .pre in
+    let loop = c .before .loop in
+    λ h. stand-end (valueIn (args .report .now) (args .row)) (args .columns .now) _ _ _ _ (pre .2 .some) (loop .inv .0) (c .loop-test .left) (loop .inv .1)
 
 pub standing-end-spec : {M : Type 1} → statement M
 standing-end-spec =

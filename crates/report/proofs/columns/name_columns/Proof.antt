@@ -51,7 +51,10 @@ slice-reshare-prefix-has : tie.Need-slice-reshare-prefix-has Inv-loop μ-loop
 slice-reshare-prefix-has c = omega (arith, c .before .before .before .before .before .loop .inv .few, c .before .before .before .before .before .loop .inv .long, c .before .before .before .before .before .before .before .before .pre)
 
 slice-aggregate-has : tie.Need-slice-aggregate-has Inv-loop μ-loop
-slice-aggregate-has c = sym (length-take-le (c .before .before .before .before .before .before .loop .k) (c .before .before .before .before .before .before .loop .columns) (omega (arith, c .before .before .before .before .before .before .loop .inv .few, c .before .before .before .before .before .before .loop .inv .long, c .before .before .before .before .before .before .before .before .before .pre)))
+slice-aggregate-has c =
+    let loop = c .before .before .before .before .before .before .loop in
+    let pre = c .before .before .before .before .before .before .before .before .before .pre in
+    sym (length-take-le (loop .k) (loop .columns) (omega (arith, loop .inv .few, loop .inv .long, pre)))
 
 has-requires : tie.Need-has-requires Inv-loop μ-loop
 has-requires c κs = search needs
@@ -63,10 +66,24 @@ same-length-2 : tie.Need-same-length-2 Inv-loop μ-loop
 same-length-2 c = search needs
 
 returns-2 : tie.Need-returns-2 Inv-loop μ-loop
-returns-2 c = record { case = name-twice (c .before .before .before .before .before .before .before .before .loop .inv) (c .before .before .before .before .before .before .before .field-at .ensures) (c .before .before .before .before .before .before .before .before .before .before .before .pre) (c .before .before .before .before .index-from .ensures) (c .before .before .before .if1 .left) (sym (c .if2 .taken) ∙ c .before .has .ensures) }
+returns-2 c =
+    let loop = c .before .before .before .before .before .before .before .before .loop in
+    let field-at = c .before .before .before .before .before .before .before .field-at in
+    let pre = c .before .before .before .before .before .before .before .before .before .before .before .pre in
+    let index-from = c .before .before .before .before .index-from in
+    let if1 = c .before .before .before .if1 in
+    let has = c .before .has in
+    record { case = name-twice (loop .inv) (field-at .ensures) pre (index-from .ensures) (if1 .left) (sym (c .if2 .taken) ∙ has .ensures) }
 
 slice-write-columns : tie.Need-slice-write-columns Inv-loop μ-loop
-slice-write-columns c = omega (arith, name-room (c .before .before .before .before .before .before .before .before .loop .inv) (c .before .before .before .before .before .before .before .field-at .ensures) (c .before .before .before .before .before .before .before .before .before .before .before .pre) (c .before .before .before .before .index-from .ensures) (c .before .before .before .if1 .left) (sym (c .if2 .left) ∙ c .before .has .ensures), c .before .before .before .before .before .before .before .before .loop .inv .long, c .before .before .before .before .before .before .before .before .before .before .before .pre)
+slice-write-columns c =
+    let loop = c .before .before .before .before .before .before .before .before .loop in
+    let field-at = c .before .before .before .before .before .before .before .field-at in
+    let pre = c .before .before .before .before .before .before .before .before .before .before .before .pre in
+    let index-from = c .before .before .before .before .index-from in
+    let if1 = c .before .before .before .if1 in
+    let has = c .before .has in
+    omega (arith, name-room (loop .inv) (field-at .ensures) pre (index-from .ensures) (if1 .left) (sym (c .if2 .left) ∙ has .ensures), loop .inv .long, pre)
 
 add-k : tie.Need-add-k Inv-loop μ-loop
 add-k c = omega (arith, c .before .before .before .before .before .before .before .before .loop .inv .few)
@@ -75,7 +92,15 @@ same-length-3 : tie.Need-same-length-3 Inv-loop μ-loop
 same-length-3 c = search needs
 
 returns-3 : tie.Need-returns-3 Inv-loop μ-loop
-returns-3 c = record { case = name-found (c .before .before .before .before .before .before .before .before .before .before .loop .inv) (c .before .before .before .before .before .before .before .before .before .field-at .ensures) (c .before .before .before .before .before .before .before .before .before .before .before .before .before .pre) (c .before .before .before .before .before .before .index-from .ensures) (c .before .before .before .before .before .if1 .left) (sym (c .before .before .if2 .left) ∙ c .before .before .before .has .ensures) (c .if3 .taken) }
+returns-3 c =
+    let loop = c .before .before .before .before .before .before .before .before .before .before .loop in
+    let field-at = c .before .before .before .before .before .before .before .before .before .field-at in
+    let pre = c .before .before .before .before .before .before .before .before .before .before .before .before .before .pre in
+    let index-from = c .before .before .before .before .before .before .index-from in
+    let if1 = c .before .before .before .before .before .if1 in
+    let if2 = c .before .before .if2 in
+    let has = c .before .before .before .has in
+    record { case = name-found (loop .inv) (field-at .ensures) pre (index-from .ensures) (if1 .left) (sym (if2 .left) ∙ has .ensures) (c .if3 .taken) }
 
 add-from : tie.Need-add-from Inv-loop μ-loop
 add-from c = omega (arith, (c .before .before .before .before .before .before .before .before .before .before .field-at .ensures) .fits (c .before .before .before .before .before .before .before .before .before .before .before .loop .inv .at-most), c .before .if3 .left)
@@ -84,10 +109,23 @@ add-hint : tie.Need-add-hint Inv-loop μ-loop
 add-hint c = search needs
 
 loop-less : tie.Need-loop-less Inv-loop μ-loop
-loop-less c = omega (arith, (c .before .before .before .before .before .before .before .before .before .before .field-at .ensures) .fits (c .before .before .before .before .before .before .before .before .before .before .before .loop .inv .at-most), (c .before .before .before .before .before .before .before .before .before .before .field-at .ensures) .till-is, c .before .if3 .left)
+loop-less c =
+    let field-at = c .before .before .before .before .before .before .before .before .before .before .field-at in
+    let loop = c .before .before .before .before .before .before .before .before .before .before .before .loop in
+    let if3 = c .before .if3 in
+    omega (arith, (field-at .ensures) .fits (loop .inv .at-most), (field-at .ensures) .till-is, if3 .left)
 
 loop-again : tie.Need-loop-again Inv-loop μ-loop
-loop-again c = name-on (c .before .before .before .before .before .before .before .before .before .before .before .loop .inv) (c .before .before .before .before .before .before .before .before .before .before .field-at .ensures) (c .before .before .before .before .before .before .before .before .before .before .before .before .before .before .pre) (c .before .before .before .before .before .before .before .index-from .ensures) (c .before .before .before .before .before .before .if1 .left) (sym (c .before .before .before .if2 .left) ∙ c .before .before .before .before .has .ensures) (c .before .if3 .left)
+loop-again c =
+    let loop = c .before .before .before .before .before .before .before .before .before .before .before .loop in
+    let field-at = c .before .before .before .before .before .before .before .before .before .before .field-at in
+    let pre = c .before .before .before .before .before .before .before .before .before .before .before .before .before .before .pre in
+    let index-from = c .before .before .before .before .before .before .before .index-from in
+    let if1 = c .before .before .before .before .before .before .if1 in
+    let if2 = c .before .before .before .if2 in
+    let has = c .before .before .before .before .has in
+    let if3 = c .before .if3 in
+    name-on (loop .inv) (field-at .ensures) pre (index-from .ensures) (if1 .left) (sym (if2 .left) ∙ has .ensures) (if3 .left)
 
 pub name-columns-spec : {M : Type 1} → statement M
 name-columns-spec =

@@ -30,7 +30,11 @@ same-length-3 : tie.Need-same-length-3
 same-length-3 c = search needs
 
 returns-2 : tie.Need-returns-2
-returns-2 c = indexed (lent (c .before .before .before .before .before .before .before .before .before .before .before .before .before .before .before .before .args .sets .now) (c .before .before .before .before .before .before .before .before .before .before .before .before .before .before .before .before .args .starts .now) (c .before .before .before .before .before .before .before .before .before .before .before .before .before .before .before .before .args .lengths .now)) (c .before .before .before .before .before .before .before .before .before .before .before .rows-in .ensures) (c .before .before .before .before .before .before .read .ensures)
+returns-2 c =
+    let args = c .before .before .before .before .before .before .before .before .before .before .before .before .before .before .before .before .args in
+    let rows-in = c .before .before .before .before .before .before .before .before .before .before .before .rows-in in
+    let read = c .before .before .before .before .before .before .read in
+    indexed (lent (args .sets .now) (args .starts .now) (args .lengths .now)) (rows-in .ensures) (read .ensures)
 
 pub index-spec : {M : Type 1} → statement M
 index-spec =

@@ -72,7 +72,12 @@ front-requires c κs = search needs
 
 returns-3 : tie.Need-returns-3
 returns-3 c = c .front .ensures ∙ rw (c .before .before .before .tail .ensures, c .before .before .before .before .wide .ensures, c .before .wide2 .ensures)
-    (noted-is _ (index (c .before .before .before .before .before .before .before .before .before .before .before .before .before .before .before .before)) _ _ (inside (c .before .before .before .before .before .before .before .before .before .before)) (c .before .before .before .before .before .before .before .before .before .if2 .left) (sym (c .before .before .before .before .before .before .before .has .ensures) ∙ c .before .before .before .before .before .before .if3 .taken))
+    let start = c .before .before .before .before .before .before .before .before .before .before .before .before .before .before .before .before in
+    let before-at = c .before .before .before .before .before .before .before .before .before .before in
+    let if2 = c .before .before .before .before .before .before .before .before .before .if2 in
+    let has = c .before .before .before .before .before .before .before .has in
+    let if3 = c .before .before .before .before .before .before .if3 in
+    (noted-is _ (index start) _ _ (inside (before-at)) (if2 .left) (sym (has .ensures) ∙ if3 .taken))
 
 slice-aggregate-result-3 : tie.Need-slice-aggregate-result-3
 slice-aggregate-result-3 c = search needs

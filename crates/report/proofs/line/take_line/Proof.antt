@@ -27,10 +27,23 @@ opened-requires : tie.Need-opened-requires
 opened-requires c κs = search needs
 
 returns : tie.Need-returns
-returns c = line-open (sym (c .before .before .before .before .before .before .before .if1 .taken) ∙ c .before .before .before .before .before .before .before .before .before .before .before .before .before .pre .1) (sym (c .before .before .before .before .if2 .taken) ∙ c .before .before .before .before .before .is-hash .ensures) (sym (c .before .if3 .taken) ∙ c .before .before .same .ensures) (c .opened .ensures)
+returns c =
+    let if1 = c .before .before .before .before .before .before .before .if1 in
+    let pre = c .before .before .before .before .before .before .before .before .before .before .before .before .before .pre in
+    let if2 = c .before .before .before .before .if2 in
+    let is-hash = c .before .before .before .before .before .is-hash in
+    let if3 = c .before .if3 in
+    let same = c .before .before .same in
+    line-open (sym (if1 .taken) ∙ pre .1) (sym (if2 .taken) ∙ is-hash .ensures) (sym (if3 .taken) ∙ same .ensures) (c .opened .ensures)
 
 returns-2 : tie.Need-returns-2
-returns-2 c = line-hash (sym (c .before .before .before .before .before .before .if1 .taken) ∙ c .before .before .before .before .before .before .before .before .before .before .before .before .pre .1) (sym (c .before .before .before .if2 .taken) ∙ c .before .before .before .before .is-hash .ensures) (sym (c .if3 .left) ∙ c .before .same .ensures)
+returns-2 c =
+    let if1 = c .before .before .before .before .before .before .if1 in
+    let pre = c .before .before .before .before .before .before .before .before .before .before .before .before .pre in
+    let if2 = c .before .before .before .if2 in
+    let is-hash = c .before .before .before .before .is-hash in
+    let same = c .before .same in
+    line-hash (sym (if1 .taken) ∙ pre .1) (sym (if2 .taken) ∙ is-hash .ensures) (sym (c .if3 .left) ∙ same .ensures)
 
 take-other-requires : tie.Need-take-other-requires
 take-other-requires c κs = c .before .before .before .before .before .before .before .before .before .before .before .before .before .pre .0
@@ -48,7 +61,13 @@ same-length-4 : tie.Need-same-length-4
 same-length-4 c = search needs
 
 returns-3 : tie.Need-returns-3
-returns-3 c = line-other (sym (c .before .before .before .before .before .before .before .before .before .before .before .before .before .before .before .before .if1 .taken) ∙ c .before .before .before .before .before .before .before .before .before .before .before .before .before .before .before .before .before .before .before .before .before .before .pre .1) (sym (c .before .before .before .before .before .before .before .before .before .before .before .before .before .if2 .left) ∙ c .before .before .before .before .before .before .before .before .before .before .before .before .before .before .is-hash .ensures) (c .before .before .before .before .before .before .before .before .take-other .ensures)
+returns-3 c =
+    let if1 = c .before .before .before .before .before .before .before .before .before .before .before .before .before .before .before .before .if1 in
+    let pre = c .before .before .before .before .before .before .before .before .before .before .before .before .before .before .before .before .before .before .before .before .before .before .pre in
+    let if2 = c .before .before .before .before .before .before .before .before .before .before .before .before .before .if2 in
+    let is-hash = c .before .before .before .before .before .before .before .before .before .before .before .before .before .before .is-hash in
+    let take-other = c .before .before .before .before .before .before .before .before .take-other in
+    line-other (sym (if1 .taken) ∙ pre .1) (sym (if2 .left) ∙ is-hash .ensures) (take-other .ensures)
 
 returns-4 : tie.Need-returns-4
 returns-4 c = line-byte (sym (c .if1 .left) ∙ c .before .before .before .before .before .before .pre .1)

@@ -40,7 +40,10 @@ slice-reshare-prefix-data-line : tie.Need-slice-reshare-prefix-data-line
 slice-reshare-prefix-data-line c = omega (arith, c .before .before .before .before .before .before .before .pre .wide, c .before .before .before .before .before .before .before .pre .known .few)
 
 slice-aggregate-data-line : tie.Need-slice-aggregate-data-line
-slice-aggregate-data-line c = sym (length-take-le (c .before .before .before .before .before .before .before .before .args .state .columns) (c .before .before .before .before .before .before .before .before .args .columns .now) (omega (arith, c .before .before .before .before .before .before .before .before .pre .wide, c .before .before .before .before .before .before .before .before .pre .known .few)))
+slice-aggregate-data-line c =
+    let args = c .before .before .before .before .before .before .before .before .args in
+    let pre = c .before .before .before .before .before .before .before .before .pre in
+    sym (length-take-le (args .state .columns) (args .columns .now) (omega (arith, pre .wide, pre .known .few)))
 
 data-line-requires : tie.Need-data-line-requires
 data-line-requires c κs = row-asks (c .before .before .before .before .before .before .before .before .before .before .before .pre)
@@ -67,7 +70,10 @@ slice-reshare-prefix-data-line-2 : tie.Need-slice-reshare-prefix-data-line-2
 slice-reshare-prefix-data-line-2 c = omega (arith, c .before .before .before .before .before .before .before .pre .wide, c .before .before .before .before .before .before .before .pre .known .few)
 
 slice-aggregate-data-line-2 : tie.Need-slice-aggregate-data-line-2
-slice-aggregate-data-line-2 c = sym (length-take-le (c .before .before .before .before .before .before .before .before .args .state .columns) (c .before .before .before .before .before .before .before .before .args .columns .now) (omega (arith, c .before .before .before .before .before .before .before .before .pre .wide, c .before .before .before .before .before .before .before .before .pre .known .few)))
+slice-aggregate-data-line-2 c =
+    let args = c .before .before .before .before .before .before .before .before .args in
+    let pre = c .before .before .before .before .before .before .before .before .pre in
+    sym (length-take-le (args .state .columns) (args .columns .now) (omega (arith, pre .wide, pre .known .few)))
 
 data-line-requires-2 : tie.Need-data-line-requires-2
 data-line-requires-2 c κs = row-asks (c .before .before .before .before .before .before .before .before .before .before .before .pre)

@@ -63,7 +63,16 @@ sub-noted : tie.Need-sub-noted
 sub-noted c = omega (arith, element-from (c .before .before .before .before .before .before .before .before .before .before .before .before .before .before .before .before .before .before .before .before .before .before .before .args .element) (c .before .before .before .if2 .left))
 
 noted-requires : tie.Need-noted-requires
-noted-requires c κs = (element-low (c .before .before .before .before .before .before .before .before .before .before .before .before .before .before .before .before .before .before .before .before .before .before .before .args .element) (c .before .before .before .if2 .left), omega (arith, c .before .before .before .before .before .before .before .before .before .before .before .before .before .before .before .before .before .before .before .before .before .before .before .pre .sets-room, c .before .before .before .before .before .before .before .before .before .before .before .before .before .before .read .kept .1 .1 .1 .0), omega (arith, c .before .before .before .before .before .before .before .before .before .before .before .before .before .before .before .before .before .before .before .before .before .before .before .pre .starts-room, c .before .before .before .before .before .before .before .before .before .before .before .before .before .before .read .kept .1 .1 .1 .1 .0), omega (arith, c .before .before .before .before .before .before .before .before .before .before .before .before .before .before .before .before .before .before .before .before .before .before .before .pre .lengths-room, c .before .before .before .before .before .before .before .before .before .before .before .before .before .before .read .kept .1 .1 .1 .1 .1 .0))
+noted-requires c κs =
+    let args = c .before .before .before .before .before .before .before .before .before .before .before .before .before .before .before .before .before .before .before .before .before .before .before .args in
+    let if2 = c .before .before .before .if2 in
+    let pre = c .before .before .before .before .before .before .before .before .before .before .before .before .before .before .before .before .before .before .before .before .before .before .before .pre in
+    let read = c .before .before .before .before .before .before .before .before .before .before .before .before .before .before .read in (
+      element-low (args .element) (if2 .left),
+      omega (arith, pre .sets-room, read .kept .1 .1 .1 .0),
+      omega (arith, pre .starts-room, read .kept .1 .1 .1 .1 .0),
+      omega (arith, pre .lengths-room, read .kept .1 .1 .1 .1 .1 .0),
+    )
 
 same-length-10 : tie.Need-same-length-10
 same-length-10 c = search needs
@@ -75,7 +84,13 @@ same-length-12 : tie.Need-same-length-12
 same-length-12 c = search needs
 
 returns-4 : tie.Need-returns-4
-returns-4 c = located-noted _ _ (accepted-of (c .before .before .before .before .before .before .before .before .before .before .before .before .before .before .before .read .ensures) (c .before .before .before .before .before .before .before .checked2 .given .1)) (c .before .before .before .before .before .if1 .left) (c .before .before .before .before .if2 .left) (c .before .before .before .before .before .before .before .before .before .before .before .before .before .before .before .before .before .before .before .less-one .ensures) (c .noted .ensures)
+returns-4 c =
+    let read = c .before .before .before .before .before .before .before .before .before .before .before .before .before .before .before .read in
+    let checked2 = c .before .before .before .before .before .before .before .checked2 in
+    let if1 = c .before .before .before .before .before .if1 in
+    let if2 = c .before .before .before .before .if2 in
+    let less-one = c .before .before .before .before .before .before .before .before .before .before .before .before .before .before .before .before .before .before .before .less-one in
+    located-noted _ _ (accepted-of (read .ensures) (checked2 .given .1)) (if1 .left) (if2 .left) (less-one .ensures) (c .noted .ensures)
 
 pub located-in-spec : {M : Type 1} → statement M
 located-in-spec =

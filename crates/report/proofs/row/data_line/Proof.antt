@@ -26,7 +26,13 @@ same-length-2 : tie.Need-same-length-2
 same-length-2 c = search needs
 
 returns-3 : tie.Need-returns-3
-returns-3 c = record { case = row-fields (c .before .before .before .before .before .before .before .before .before .before .before .before .before .before .before .before .before .pre) (c .before .before .before .before .before .before .before .before .before .before .before .if1 .left) (c .before .before .before .before .before .before .before .before .before .before .if2 .left) (wrong-of (c .before .before .before .before .before .before .before .take-fields .ensures) (c .before .taken .given .1)) }
+returns-3 c =
+    let pre = c .before .before .before .before .before .before .before .before .before .before .before .before .before .before .before .before .before .pre in
+    let if1 = c .before .before .before .before .before .before .before .before .before .before .before .if1 in
+    let if2 = c .before .before .before .before .before .before .before .before .before .before .if2 in
+    let take-fields = c .before .before .before .before .before .before .before .take-fields in
+    let taken = c .before .taken in
+    record { case = row-fields pre (if1 .left) (if2 .left) (wrong-of (take-fields .ensures) (taken .given .1)) }
 
 enum-known-taken-2 : tie.Need-enum-known-taken-2
 enum-known-taken-2 c = search needs
@@ -50,7 +56,13 @@ same-length-5 : tie.Need-same-length-5
 same-length-5 c = search needs
 
 returns-4 : tie.Need-returns-4
-returns-4 c = row-held (c .before .before .before .before .before .before .before .before .before .before .before .before .before .before .before .before .before .before .pre) (c .before .before .before .before .before .before .before .before .before .before .before .before .if1 .left) (c .before .before .before .before .before .before .before .before .before .before .before .if2 .left) (good-of (c .before .before .before .before .before .before .before .before .take-fields .ensures) (c .before .before .taken2 .given .1)) (c .held .ensures)
+returns-4 c =
+    let pre = c .before .before .before .before .before .before .before .before .before .before .before .before .before .before .before .before .before .before .pre in
+    let if1 = c .before .before .before .before .before .before .before .before .before .before .before .before .if1 in
+    let if2 = c .before .before .before .before .before .before .before .before .before .before .before .if2 in
+    let take-fields = c .before .before .before .before .before .before .before .before .take-fields in
+    let taken2 = c .before .before .taken2 in
+    row-held pre (if1 .left) (if2 .left) (good-of (take-fields .ensures) (taken2 .given .1)) (c .held .ensures)
 
 pub data-line-spec : {M : Type 1} → statement M
 data-line-spec =

@@ -21,7 +21,12 @@ same-requires c κs = search needs
 
 returns-2 : tie.Need-returns-2
 unfolding markOn
-returns-2 c = rw (present-some (c .before .before .before .before .before .before .args .value .now) (c .before .before .before .before .if1 .left), shifted _ (c .before .before .before .before .before .before .pre), eq-eqb _ _ (c .before .before .if2 .taken), ne-eqb (c .before .before .before .before .before .before .args .element) 9 (λ z. omega (arith, z, c .before .before .if2 .taken)), c .same .ensures)
+returns-2 c =
+    let args = c .before .before .before .before .before .before .args in
+    let if1 = c .before .before .before .before .if1 in
+    let pre = c .before .before .before .before .before .before .pre in
+    let if2 = c .before .before .if2 in
+    rw (present-some (args .value .now) (if1 .left), shifted _ pre, eq-eqb _ _ (if2 .taken), ne-eqb (args .element) 9 (λ z. omega (arith, z, if2 .taken)), c .same .ensures)
 
 slice-aggregate-same-2 : tie.Need-slice-aggregate-same-2
 slice-aggregate-same-2 c = search needs
@@ -31,7 +36,13 @@ same-requires-2 c κs = search needs
 
 returns-3 : tie.Need-returns-3
 unfolding markOn
-returns-3 c = rw (present-some (c .before .before .before .before .before .before .before .args .value .now) (c .before .before .before .before .before .if1 .left), shifted _ (c .before .before .before .before .before .before .before .pre), ne-eqb _ _ (c .before .before .before .if2 .left), eq-eqb _ _ (c .before .before .if3 .taken), c .same2 .ensures)
+returns-3 c =
+    let args = c .before .before .before .before .before .before .before .args in
+    let if1 = c .before .before .before .before .before .if1 in
+    let pre = c .before .before .before .before .before .before .before .pre in
+    let if2 = c .before .before .before .if2 in
+    let if3 = c .before .before .if3 in
+    rw (present-some (args .value .now) (if1 .left), shifted _ pre, ne-eqb _ _ (if2 .left), eq-eqb _ _ (if3 .taken), c .same2 .ensures)
 
 returns-4 : tie.Need-returns-4
 unfolding markOn

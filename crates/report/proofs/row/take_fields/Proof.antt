@@ -63,22 +63,47 @@ same-length-2 : tie.Need-same-length-2 Inv-loop μ-loop
 same-length-2 c = search needs
 
 returns : tie.Need-returns Inv-loop μ-loop
-returns c = record { case = field-bad (c .before .before .before .before .before .before .before .before .before .before .before .before .before .before .before .pre) (c .before .before .before .before .before .before .before .before .before .loop .inv) (c .before .before .before .before .before .before .before .field-at .ensures) (c .before .before .before .before .before .before .before .before .loop-test .taken) _ (sym (c .before .check .given .1) ∙ c .before .before .before .fault .ensures) }
+returns c =
+    let pre = c .before .before .before .before .before .before .before .before .before .before .before .before .before .before .before .pre in
+    let loop = c .before .before .before .before .before .before .before .before .before .loop in
+    let field-at = c .before .before .before .before .before .before .before .field-at in
+    let loop-test = c .before .before .before .before .before .before .before .before .loop-test in
+    let check = c .before .check in
+    let fault = c .before .before .before .fault in
+    record { case = field-bad pre (loop .inv) (field-at .ensures) (loop-test .taken) _ (sym (check .given .1) ∙ fault .ensures) }
 
 enum-told : tie.Need-enum-told Inv-loop μ-loop
 enum-told c = search needs
 
 marked-requires : tie.Need-marked-requires Inv-loop μ-loop
-marked-requires c κs = c .before .before .before .before .before .before .before .before .before .before .before .before .before .before .pre .known (c .before .before .before .before .before .before .before .before .loop .k) (c .before .before .before .before .before .before .before .loop-test .taken)
+marked-requires c κs =
+    let pre = c .before .before .before .before .before .before .before .before .before .before .before .before .before .before .pre in
+    let loop = c .before .before .before .before .before .before .before .before .loop in
+    let loop-test = c .before .before .before .before .before .before .before .loop-test in
+    pre .known (loop .k) (loop-test .taken)
 
 add-note : tie.Need-add-note Inv-loop μ-loop
-add-note c = omega (arith, c .before .before .before .before .before .before .before .before .before .before .before .before .before .before .before .before .before .pre .known (c .before .before .before .before .before .before .before .before .before .before .before .loop .k) (c .before .before .before .before .before .before .before .before .before .before .loop-test .taken), c .before .before .before .before .before .before .before .before .before .before .before .before .before .before .before .before .before .pre .starts-room)
+add-note c =
+    let pre = c .before .before .before .before .before .before .before .before .before .before .before .before .before .before .before .before .before .pre in
+    let loop = c .before .before .before .before .before .before .before .before .before .before .before .loop in
+    let loop-test = c .before .before .before .before .before .before .before .before .before .before .loop-test in
+    omega (arith, pre .known (loop .k) (loop-test .taken), pre .starts-room)
 
 add-note-2 : tie.Need-add-note-2 Inv-loop μ-loop
-add-note-2 c = omega (arith, c .before .before .before .before .before .before .before .before .before .before .before .before .before .before .before .before .before .pre .short, c .before .before .before .before .before .before .before .before .before .before .before .before .before .before .before .before .before .pre .order, entry-inside (c .before .before .before .before .before .before .before .before .before .before .before .before .before .before .before .before .before .pre) (c .before .before .before .before .before .before .before .before .before .before .before .loop .inv) (c .before .before .before .before .before .before .before .before .before .field-at .ensures) (c .before .before .before .before .before .before .before .before .before .before .loop-test .taken) .2)
+add-note-2 c =
+    let pre = c .before .before .before .before .before .before .before .before .before .before .before .before .before .before .before .before .before .pre in
+    let loop = c .before .before .before .before .before .before .before .before .before .before .before .loop in
+    let field-at = c .before .before .before .before .before .before .before .before .before .field-at in
+    let loop-test = c .before .before .before .before .before .before .before .before .before .before .loop-test in
+    omega (arith, pre .short, pre .order, entry-inside pre (loop .inv) (field-at .ensures) (loop-test .taken) .2)
 
 note-requires : tie.Need-note-requires Inv-loop μ-loop
-note-requires c κs = entry-inside (c .before .before .before .before .before .before .before .before .before .before .before .before .before .before .before .before .before .pre) (c .before .before .before .before .before .before .before .before .before .before .before .loop .inv) (c .before .before .before .before .before .before .before .before .before .field-at .ensures) (c .before .before .before .before .before .before .before .before .before .before .loop-test .taken)
+note-requires c κs =
+    let pre = c .before .before .before .before .before .before .before .before .before .before .before .before .before .before .before .before .before .pre in
+    let loop = c .before .before .before .before .before .before .before .before .before .before .before .loop in
+    let field-at = c .before .before .before .before .before .before .before .before .before .field-at in
+    let loop-test = c .before .before .before .before .before .before .before .before .before .before .loop-test in
+    entry-inside pre (loop .inv) (field-at .ensures) (loop-test .taken)
 
 same-length-3 : tie.Need-same-length-3 Inv-loop μ-loop
 same-length-3 c = search needs
@@ -87,19 +112,48 @@ same-length-4 : tie.Need-same-length-4 Inv-loop μ-loop
 same-length-4 c = search needs
 
 returns-2 : tie.Need-returns-2 Inv-loop μ-loop
-returns-2 c = record { case = fields-done (c .before .before .before .before .before .before .before .before .before .before .before .before .before .before .before .before .before .before .before .before .before .before .before .before .pre) (c .before .before .before .before .before .before .before .before .before .before .before .before .before .before .before .before .before .before .loop .inv) (c .before .before .before .before .before .before .before .before .before .before .before .before .before .before .before .before .field-at .ensures) (c .before .before .before .before .before .before .before .before .before .before .before .before .before .before .before .before .before .loop-test .taken) (sym (c .before .before .before .before .before .before .before .before .before .before .enum-told .given .1) ∙ c .before .before .before .before .before .before .before .before .before .before .before .before .fault .ensures) (c .before .before .before .before .before .before .before .before .before .marked .ensures) (c .before .before .before .before .before .before .note .ensures .0) (c .before .before .before .before .before .before .note .ensures .1) (c .if1 .taken) }
+returns-2 c =
+    let pre = c .before .before .before .before .before .before .before .before .before .before .before .before .before .before .before .before .before .before .before .before .before .before .before .before .pre in
+    let loop = c .before .before .before .before .before .before .before .before .before .before .before .before .before .before .before .before .before .before .loop in
+    let field-at = c .before .before .before .before .before .before .before .before .before .before .before .before .before .before .before .before .field-at in
+    let loop-test = c .before .before .before .before .before .before .before .before .before .before .before .before .before .before .before .before .before .loop-test in
+    let enum-told-at = c .before .before .before .before .before .before .before .before .before .before .enum-told in
+    let fault = c .before .before .before .before .before .before .before .before .before .before .before .before .fault in
+    let marked = c .before .before .before .before .before .before .before .before .before .marked in
+    let note = c .before .before .before .before .before .before .note in
+    record {
+      case = fields-done pre (loop .inv) (field-at .ensures) (loop-test .taken) (sym (enum-told-at .given .1) ∙ fault .ensures) (marked .ensures) (note .ensures .0) (note .ensures .1) (c .if1 .taken);
+    }
 
 add-at : tie.Need-add-at Inv-loop μ-loop
-add-at c = omega (arith, (c .before .before .before .before .before .before .before .before .before .before .before .before .before .before .before .before .before .field-at .ensures) .fits (c .before .before .before .before .before .before .before .before .before .before .before .before .before .before .before .before .before .before .before .loop .inv .at-most), length-take (c .before .before .before .before .before .before .before .before .before .before .before .before .before .before .before .before .before .before .before .before .before .before .before .before .before .args .till - c .before .before .before .before .before .before .before .before .before .before .before .before .before .before .before .before .before .before .before .before .before .before .before .before .before .args .from) (drop (c .before .before .before .before .before .before .before .before .before .before .before .before .before .before .before .before .before .before .before .before .before .before .before .before .before .args .from) (c .before .before .before .before .before .before .before .before .before .before .before .before .before .before .before .before .before .before .before .before .before .before .before .before .before .args .report .now)), c .before .before .before .before .before .before .before .before .before .before .before .before .before .before .before .before .before .before .before .before .before .before .before .before .before .pre .short)
+add-at c =
+    let field-at = c .before .before .before .before .before .before .before .before .before .before .before .before .before .before .before .before .before .field-at in
+    let loop = c .before .before .before .before .before .before .before .before .before .before .before .before .before .before .before .before .before .before .before .loop in
+    let args = c .before .before .before .before .before .before .before .before .before .before .before .before .before .before .before .before .before .before .before .before .before .before .before .before .before .args in
+    let pre = c .before .before .before .before .before .before .before .before .before .before .before .before .before .before .before .before .before .before .before .before .before .before .before .before .before .pre in
+    omega (arith, (field-at .ensures) .fits (loop .inv .at-most), length-take (args .till - args .from) (drop (args .from) (args .report .now)), pre .short)
 
 add-k : tie.Need-add-k Inv-loop μ-loop
-add-k c = omega (arith, c .before .before .before .before .before .before .before .before .before .before .before .before .before .before .before .before .before .before .loop-test .taken, c .before .before .before .before .before .before .before .before .before .before .before .before .before .before .before .before .before .before .before .before .before .before .before .before .before .pre .few)
+add-k c =
+    let loop-test = c .before .before .before .before .before .before .before .before .before .before .before .before .before .before .before .before .before .before .loop-test in
+    let pre = c .before .before .before .before .before .before .before .before .before .before .before .before .before .before .before .before .before .before .before .before .before .before .before .before .before .pre in
+    omega (arith, loop-test .taken, pre .few)
 
 loop-less : tie.Need-loop-less Inv-loop μ-loop
 loop-less c = search needs
 
 loop-again : tie.Need-loop-again Inv-loop μ-loop
-loop-again c = fields-on (c .before .before .before .before .before .before .before .before .before .before .before .before .before .before .before .before .before .before .before .before .before .before .before .before .before .pre) (c .before .before .before .before .before .before .before .before .before .before .before .before .before .before .before .before .before .before .before .loop .inv) (c .before .before .before .before .before .before .before .before .before .before .before .before .before .before .before .before .before .field-at .ensures) (c .before .before .before .before .before .before .before .before .before .before .before .before .before .before .before .before .before .before .loop-test .taken) (sym (c .before .before .before .before .before .before .before .before .before .before .before .enum-told .given .1) ∙ c .before .before .before .before .before .before .before .before .before .before .before .before .before .fault .ensures) (c .before .before .before .before .before .before .before .before .before .before .marked .ensures) (c .before .before .before .before .before .before .before .note .ensures .0) (c .before .before .before .before .before .before .before .note .ensures .1) (c .before .if1 .left)
+loop-again c =
+    let pre = c .before .before .before .before .before .before .before .before .before .before .before .before .before .before .before .before .before .before .before .before .before .before .before .before .before .pre in
+    let loop = c .before .before .before .before .before .before .before .before .before .before .before .before .before .before .before .before .before .before .before .loop in
+    let field-at = c .before .before .before .before .before .before .before .before .before .before .before .before .before .before .before .before .before .field-at in
+    let loop-test = c .before .before .before .before .before .before .before .before .before .before .before .before .before .before .before .before .before .before .loop-test in
+    let enum-told-at = c .before .before .before .before .before .before .before .before .before .before .before .enum-told in
+    let fault = c .before .before .before .before .before .before .before .before .before .before .before .before .before .fault in
+    let marked = c .before .before .before .before .before .before .before .before .before .before .marked in
+    let note = c .before .before .before .before .before .before .before .note in
+    let if1 = c .before .if1 in
+    fields-on pre (loop .inv) (field-at .ensures) (loop-test .taken) (sym (enum-told-at .given .1) ∙ fault .ensures) (marked .ensures) (note .ensures .0) (note .ensures .1) (if1 .left)
 
 same-length-5 : tie.Need-same-length-5 Inv-loop μ-loop
 same-length-5 c = search needs

@@ -1,0 +1,5 @@
+pub mod BlockLaws
+pub mod ComparisonLaws
+pub mod LineLaws
+pub mod PartLaws
+pub mod Same

@@ -1,0 +1,5 @@
+pub mod Part
+pub mod Comparison
+pub mod Line
+pub mod Blocks
+pub mod Steps

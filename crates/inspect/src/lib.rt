@@ -1,0 +1,14 @@
+// What a person is told about a text beside its answers: parts of it, its lines and columns, and how it compares with another.
+pub mod blocks;
+pub mod comparison;
+pub mod line;
+pub mod part;
+
+use element::ELEMENTS;
+use report::ROW_LIMIT;
+
+// The rows of an index of a whole report: those of the report, and one for the reader's own use.
+pub const ROWS: usize = ROW_LIMIT + 1;
+
+// The entries of a list of such an index.
+pub const ENTRIES: usize = ROWS * ELEMENTS;
