@@ -12,7 +12,7 @@ use native.Mathlib.Nat.{add-comm}
 use mir.Syntax.{w64}
 use mir.Val.{Fits}
 use borrow.Author.Tests.{eq-eqb, ne-eqb}
-use Rattle.cuts.specs.Runs.{runsOf, joined, onto, press, change, changes, runsIn, Room, Pressed, Joins}
+use Rattle.cuts.specs.Runs.{runsOf, ontoRun, onto, press, change, changes, runsIn, Room, Pressed, Joins}
 use Rattle.cuts.specs.Block.{mostRows, mostBytes, Row, row, rowsOf, valueBytes, rowCount}
 use Rattle.cuts.proofs.SumLaws.{drop-set, one-less-lt, runs-length, values-drop-le, count-drop-le}
 
@@ -36,7 +36,7 @@ rows-few (m ∷ sets) [] = omega arith
 rows-few (m ∷ sets) (s ∷ sizes) = omega (arith, rows-few sets sizes)
 
 -- Pressing loses no value and no row.
-joined-both : (b : Bool) (x run : Row) (runs : List Row) → (valueBytes (joined b x run runs) ≡ x .size + (run .size + valueBytes runs)) × (rowCount (joined b x run runs) ≡ x .count + (run .count + rowCount runs))
+joined-both : (b : Bool) (x run : Row) (runs : List Row) → (valueBytes (ontoRun b x run runs) ≡ x .size + (run .size + valueBytes runs)) × (rowCount (ontoRun b x run runs) ≡ x .count + (run .count + rowCount runs))
 unfolding valueBytes rowCount
 joined-both true x run runs = (omega arith, omega arith)
 joined-both false x run runs = (refl, refl)
@@ -58,7 +58,7 @@ headSet [] = 0
 headSet (run ∷ runs) = run .set
 
 -- A row in front: how many runs there are, and that the first has its set.
-joined-runs : (b : Bool) (x run : Row) (runs : List Row) → (length (joined b x run runs) ≡ cond b 0 1 + suc (length runs)) × (headSet (joined b x run runs) ≡ x .set)
+joined-runs : (b : Bool) (x run : Row) (runs : List Row) → (length (ontoRun b x run runs) ≡ cond b 0 1 + suc (length runs)) × (headSet (ontoRun b x run runs) ≡ x .set)
 unfolding headSet
 joined-runs true x run runs = (omega arith, refl)
 joined-runs false x run runs = (omega arith, refl)
@@ -68,7 +68,7 @@ unfolding headSet
 onto-runs x [] = (omega arith, omega arith, refl)
 onto-runs x (run ∷ runs) = go (eqb (run .set) (x .set))
   where
-    go : (b : Bool) → (suc (length runs) ≤ length (joined b x run runs)) × (length (joined b x run runs) ≤ suc (suc (length runs))) × (headSet (joined b x run runs) ≡ x .set)
+    go : (b : Bool) → (suc (length runs) ≤ length (ontoRun b x run runs)) × (length (ontoRun b x run runs) ≤ suc (suc (length runs))) × (headSet (ontoRun b x run runs) ≡ x .set)
     go true = (omega arith, omega arith, refl)
     go false = (omega arith, omega arith, refl)
 
@@ -150,7 +150,7 @@ module _ (sets sizes runSets runSizes runCounts : List ℕ) (i j : ℕ) (p : Pre
       unfolding x
       join-is =
           next-is ∙ ap (onto x) runs-ahead
-          ∙ ap (λ (b : Bool). joined b x (row (getD runSets j 0) (getD runSizes j 0) (getD runCounts j 0)) rest) (eq-eqb (getD runSets j 0) (getD sets i 0) e)
+          ∙ ap (λ (b : Bool). ontoRun b x (row (getD runSets j 0) (getD runSizes j 0) (getD runCounts j 0)) rest) (eq-eqb (getD runSets j 0) (getD sets i 0) e)
 
       pub join-done : (runSizes′ runCounts′ : List ℕ) → (runSizes′ ≡ set runSizes j (getD runSizes j 0 + getD sizes i 0)) × (runCounts′ ≡ set runCounts j (getD runCounts j 0 + 1)) → Pressed sets sizes i runSets runSizes′ runCounts′ j
       unfolding rest
@@ -217,7 +217,7 @@ module _ (sets sizes runSets runSizes runCounts : List ℕ) (i j : ℕ) (p : Pre
   unfolding x
   other-run g n =
       next-is ∙ ap (onto x) (runs-ahead g)
-      ∙ ap (λ (b : Bool). joined b x (row (getD runSets j 0) (getD runSizes j 0) (getD runCounts j 0)) (rest g)) (ne-eqb (getD runSets j 0) (getD sets i 0) n)
+      ∙ ap (λ (b : Bool). ontoRun b x (row (getD runSets j 0) (getD runSizes j 0) (getD runCounts j 0)) (rest g)) (ne-eqb (getD runSets j 0) (getD sets i 0) n)
       ∙ ap (λ (t : List Row). x ∷ t) (sym (runs-ahead g))
 
   pub other-left : j < length runSets → (getD runSets j 0 ≡ getD sets i 0 → ⊥) → 0 < j

@@ -9,7 +9,7 @@ use lib.Dec.{eqb}
 use lib.Bits.{bitOr, or-comm}
 use borrow.Author.Tests.{eqb-true}
 use native.Mathlib.Nat.{add-zero}
-use Rattle.cuts.specs.Runs.{joined, onto, press, inRows}
+use Rattle.cuts.specs.Runs.{ontoRun, onto, press, inRows}
 use Rattle.cuts.specs.Block.{Row, row, rowsOf, total, union, valueBytes, rowCount, bytesOf, blockBytes}
 use Rattle.cuts.proofs.UnionLaws.{or-twice}
 use Rattle.cuts.proofs.Trades.{SameSet, union-or}
@@ -112,10 +112,10 @@ unfolding valueBytes rowCount
 press-onto x [] o c = ap (λ (r : Row). r ∷ []) (alone x)
 press-onto x ([] ∷ gs) o c = absurd (c .0)
 press-onto x ((y ∷ g) ∷ gs) o c =
-    ap (λ (m : ℕ). joined (eqb m (x .set)) x (summary (y ∷ g)) (map summary gs)) (chain-set y g 0 (c .0))
+    ap (λ (m : ℕ). ontoRun (eqb m (x .set)) x (summary (y ∷ g)) (map summary gs)) (chain-set y g 0 (c .0))
     ∙ go (eqb (y .set) (x .set)) refl
   where
-    go : (b : Bool) → eqb (y .set) (x .set) ≡ b → joined b x (summary (y ∷ g)) (map summary gs) ≡ map summary (joinedGroup b x (y ∷ g) gs)
+    go : (b : Bool) → eqb (y .set) (x .set) ≡ b → ontoRun b x (summary (y ∷ g)) (map summary gs) ≡ map summary (joinedGroup b x (y ∷ g) gs)
     go true e =
         ap (λ (m : ℕ). row m (x .size + valueBytes (y ∷ g)) (x .count + rowCount (y ∷ g)) ∷ map summary gs)
         (sym (chain-set x (y ∷ g) 0 ((sym (eqb-true (y .set) (x .set) e), omega arith), c .0)))

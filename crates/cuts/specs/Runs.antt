@@ -17,14 +17,14 @@ runsOf (set ∷ sets) (size ∷ sizes) [] = []
 runsOf (set ∷ sets) (size ∷ sizes) (count ∷ counts) = row set size count ∷ runsOf sets sizes counts
 
 -- The row x before the run: one run where the test says so, else two.
-abbrev pub joined : Bool → Row → Row → List Row → List Row
-joined true x run runs = row (x .set) (x .size + run .size) (x .count + run .count) ∷ runs
-joined false x run runs = x ∷ run ∷ runs
+abbrev pub ontoRun : Bool → Row → Row → List Row → List Row
+ontoRun true x run runs = row (x .set) (x .size + run .size) (x .count + run .count) ∷ runs
+ontoRun false x run runs = x ∷ run ∷ runs
 
 -- The row x before the runs: it joins the first of them where they have one set.
 abbrev pub onto : Row → List Row → List Row
 onto x [] = x ∷ []
-onto x (run ∷ runs) = joined (eqb (run .set) (x .set)) x run runs
+onto x (run ∷ runs) = ontoRun (eqb (run .set) (x .set)) x run runs
 
 -- The runs of the rows.
 unfoldable pub press : List Row → List Row
