@@ -3,3 +3,4 @@ pub mod ComparisonLaws
 pub mod LineLaws
 pub mod PartLaws
 pub mod Same
+pub mod TableLaws

@@ -1,4 +1,5 @@
 pub mod Part
+pub mod Tables
 pub mod Comparison
 pub mod Line
 pub mod Blocks

@@ -3,6 +3,7 @@ pub mod blocks;
 pub mod comparison;
 pub mod line;
 pub mod part;
+pub mod table;
 
 use element::ELEMENTS;
 use report::ROW_LIMIT;
