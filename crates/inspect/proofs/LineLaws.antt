@@ -1,21 +1,34 @@
 -- Laws of a line's bytes, its fields by position, and the columns that hold for it.
 use Prim.Native.Nat.{ℕ, zero, suc, _+_, _-_, _≤_, _<_, min}
 use mathlib.Core.Path.{_≡_, refl, ap, sym, _∙_}
-use mathlib.Core.Bool.{true, false, cond}
+use mathlib.Core.Bool.{true, false, cond, _&&_}
 use mathlib.Core.List.{List, [], _∷_}
 use native.Mathlib.Nat.{add-zero}
 use native.Mathlib.Numerals.{add-one}
 use native.Mathlib.Omega.{arith}
-use lib.Dec.{eqb}
+use lib.Dec.{eqb, ltb}
 use lib.ListN.{length, take, drop, getD, drop-of-length-le, length-drop}
 use lib.Seq.{drop-cons, drop-drop, getD-drop}
-use borrow.Author.Tests.{eq-eqb, ne-eqb}
+use borrow.Author.Tests.{eq-eqb, ne-eqb, ltb-true, ltb-false}
 use Rattle.text.specs.Lines.{isPrintable, upTo, fields, into, trim, fieldFrom, FieldAt}
 use Rattle.text.proofs.Bools.{bools}
 use Rattle.text.proofs.LineLaws.{fields-more, fields-first}
-use Rattle.element.specs.Table.{elementNumber}
+use Rattle.element.specs.Table.{elements, elementNumber}
 use Rattle.inspect.specs.Part.{afterMark, partStart, marksIn}
-use Rattle.inspect.specs.Line.{printableFront, fieldIndex, fieldOf, fieldStart, FieldIs, elementAt, columnFrom, columnOf, columnsBefore}
+use Rattle.inspect.specs.Line.{
+  printableFront,
+  fieldIndex,
+  fieldOf,
+  fieldStart,
+  FieldIs,
+  elementAt,
+  columnFrom,
+  columnOf,
+  isPresent,
+  presentFrom,
+  firstPresent,
+  columnsBefore,
+}
 use Rattle.inspect.proofs.PartLaws.{start-on}
 
 -- Bytes.
@@ -107,6 +120,12 @@ field-is line position last index from l i e f =
     let g = rw p at f in
     record { place = g; value = g .value ∙ ap trim (field-from line (fieldIndex line position) w) }
 
+-- The value of a field is as long as the answer says.
+pub field-size : {line : List ℕ} {position start size till : ℕ} → FieldIs line position start size till → size ≡ length (trim (fieldOf line position))
+unfolding fieldIndex fieldOf fieldStart
+field-size {line} {position} f =
+    f .place .size-is ∙ ap (λ (x : List ℕ). length (trim x)) (field-from line (fieldIndex line position) (omega (arith, fields-count line)))
+
 -- The element that is named there.
 pub element-is : (columns : List ℕ) {position start size till : ℕ} → FieldIs columns position start size till → (rest name : List ℕ) (number : ℕ)
     → rest ≡ drop start columns → name ≡ take size rest → number ≡ elementNumber name → number ≡ elementAt columns position
@@ -139,6 +158,42 @@ module _ (columns : List ℕ) (element k : ℕ) (inv : columnOf columns element 
     pub column-on : (n ≡ element → ⊥) → columnOf columns element ≡ columnFrom (k + 1 + 1) (drop (k + 1) (fields columns)) element
     unfolding columnFrom
     column-on q = inv ∙ rw (left, ← named, ne-eqb n element q, add-one k)
+
+-- Elements that are present.
+
+pub present-is : (line columns : List ℕ) (element column : ℕ) {start size till : ℕ} → column ≡ columnOf columns element → FieldIs line column start size till
+    → ltb 0 element && ltb 0 column && ltb 0 size ≡ isPresent line columns element
+unfolding isPresent
+present-is line columns element column e f = rw (field-size f, e)
+
+-- The last element number that is looked at.
+pub last-is : (last end : ℕ) → end ≡ cond (ltb last elements) last elements → end ≡ min last elements
+last-is last end e =
+    bools (ltb last elements) (λ t. omega (arith, rw t at e, ltb-true last elements t)) (λ t. omega (arith, rw t at e, ltb-false last elements t))
+
+pub present-start : (line columns : List ℕ) (first last end : ℕ) → end ≡ min last elements
+    → firstPresent line columns first last ≡ presentFrom (end + 1 - first) first line columns
+unfolding firstPresent
+present-start line columns first last end e = rw e
+
+module _ (line columns : List ℕ) (first last end element : ℕ)
+    (inv : firstPresent line columns first last ≡ presentFrom (end + 1 - element) element line columns) where
+  pub present-end : end < element → 0 ≡ firstPresent line columns first last
+  unfolding presentFrom
+  present-end h = let q : end + 1 - element ≡ 0 = omega arith in sym (inv ∙ rw q)
+
+  module _ (h : element ≤ end) where
+    pub present-here : isPresent line columns element ≡ true → element ≡ firstPresent line columns first last
+    unfolding presentFrom
+    present-here e = let q : end + 1 - element ≡ suc (end - element) = omega arith in sym (inv ∙ rw (q, e))
+
+    pub present-on : isPresent line columns element ≡ false
+        → firstPresent line columns first last ≡ presentFrom (end + 1 - (element + 1)) (element + 1) line columns
+    unfolding presentFrom
+    present-on e =
+        let q : end + 1 - element ≡ suc (end - element) = omega arith in
+        let p : end + 1 - (element + 1) ≡ end - element = omega arith in
+        inv ∙ rw (q, e, p)
 
 -- The columns that hold for a line.
 pub record ColumnsAt (text : List ℕ) (k from columns : ℕ) : Type 0 where

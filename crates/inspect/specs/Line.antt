@@ -2,12 +2,12 @@
 use Prim.Native.Char.{code}
 use Prim.Native.Nat.{ℕ, zero, suc, _+_, _-_, min}
 use mathlib.Core.Path.{_≡_}
-use mathlib.Core.Bool.{cond}
+use mathlib.Core.Bool.{Bool, cond, _&&_}
 use mathlib.Core.List.{List, [], _∷_}
-use lib.Dec.{eqb}
+use lib.Dec.{eqb, ltb}
 use lib.ListN.{length, take, drop, getD}
 use Rattle.text.specs.Lines.{lineFeed, bar, isPrintable, fields, trim, FieldAt}
-use Rattle.element.specs.Table.{elementNumber}
+use Rattle.element.specs.Table.{elements, elementNumber}
 use Rattle.inspect.specs.Part.{partStart}
 
 -- How many bytes stand before the first one outside 0x20 to 0x7E; all of them where there is none.
@@ -45,6 +45,21 @@ columnFrom position (field ∷ rest) element =
 -- The position of an element in a column line, counted from 1; 0 where it is not there.
 unfoldable pub columnOf : List ℕ → ℕ → ℕ
 columnOf columns element = columnFrom 1 (fields columns) element
+
+-- An element of a number, counted from 1, is present in a data line: its column stands in the column line, and its field is not empty.
+unfoldable pub isPresent : List ℕ → List ℕ → ℕ → Bool
+isPresent line columns element =
+    ltb 0 element && ltb 0 (columnOf columns element) && ltb 0 (length (trim (fieldOf line (columnOf columns element))))
+
+-- The lowest element number, of so many from one on, that is present in a data line; 0 where none is.
+unfoldable pub presentFrom : ℕ → ℕ → List ℕ → List ℕ → ℕ
+presentFrom zero element line columns = 0
+presentFrom (suc left) element line columns =
+    cond (isPresent line columns element) element (presentFrom left (element + 1) line columns)
+
+-- The lowest element number from `first` to `last` that is present in a data line; 0 where none is.
+unfoldable pub firstPresent : List ℕ → List ℕ → ℕ → ℕ → ℕ
+firstPresent line columns first last = presentFrom (min last elements + 1 - first) first line columns
 
 -- Where the column line starts that holds for the line of a number, counted from 0: after the last line before it that begins with `#`;
 -- 0 where there is none.

@@ -1,5 +1,6 @@
 // A line of a text: its bytes, its fields, and the columns that hold for it.
 use crate::part;
+use element::ELEMENTS;
 use text::lines::Field;
 use text::lines::field_at;
 use text::lines::is_printable;
@@ -9,7 +10,7 @@ use text::part::tail;
 ghost use mathlib.Core.Path.{_≡_};
 ghost use mathlib.Core.Bool.{cond};
 ghost use Prim.Native.Nat.{_-_, min};
-ghost use Rattle.inspect.specs.Line.{printableFront, FieldIs, elementAt, columnOf, columnsBefore};
+ghost use Rattle.inspect.specs.Line.{printableFront, FieldIs, elementAt, columnOf, isPresent, firstPresent, columnsBefore};
 
 // Where the first byte outside 0x20 to 0x7E stands in a line; the line's length where there is none.
 pub fn first_wrong(line: &[u8]) -> usize
@@ -65,6 +66,31 @@ pub fn column_of(columns: &[u8], element: usize) -> usize
         }
     }
     0
+}
+
+// The lowest element number from `first` to `last`, counted from 1, whose column stands in the column line and whose field in the data line
+// is not empty; 0 where there is none.
+pub fn first_present(line: &[u8], columns: &[u8], first: usize, last: usize) -> usize
+    ensures { λ r. ⌜ r ≡ firstPresent (now (line .entry)) (now (columns .entry)) first last ⌝ }
+{
+    let end = either(last < ELEMENTS, last, ELEMENTS);
+    let mut element: usize = first;
+    while element <= end {
+        if is_present(line, columns, element) {
+            return element;
+        }
+        element += 1;
+    }
+    0
+}
+
+// Whether the column of an element stands in the column line and its field in the data line is not empty.
+fn is_present(line: &[u8], columns: &[u8], element: usize) -> bool
+    ensures { λ r. ⌜ r ≡ isPresent (now (line .entry)) (now (columns .entry)) element ⌝ }
+{
+    let column = column_of(columns, element);
+    let value = field(line, column);
+    (0 < element) & (0 < column) & (0 < value.length)
 }
 
 // Where the column line starts that holds for the line of a number, counted from 0: after the last line before it that begins with `#`;
