@@ -2,5 +2,6 @@ pub mod Part
 pub mod Tables
 pub mod Comparison
 pub mod Line
+pub mod Oddity
 pub mod Blocks
 pub mod Steps

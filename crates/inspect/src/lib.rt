@@ -2,6 +2,7 @@
 pub mod blocks;
 pub mod comparison;
 pub mod line;
+pub mod oddity;
 pub mod part;
 pub mod table;
 
