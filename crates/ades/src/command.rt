@@ -1,6 +1,6 @@
 // A command: its words, parted by bytes 0.
-use crate::error;
 use inspect::part;
+use text::part::tail;
 use words::print;
 ghost use mathlib.Core.Path.{_≡_};
 ghost use Prim.Native.Nat.{_≤_};
@@ -68,13 +68,9 @@ pub fn arguments(command: &[u8]) -> usize
     part::count(command, PARTING)
 }
 
-// Whether a command has so many words after its name; where it has not, its usage is told.
-pub(crate) fn wants(command: &[u8], words: usize, usage: &[u8]) -> bool {
-    if arguments(command) == words {
-        return true;
-    }
-    error::tell_about(b"usage: ades ", usage);
-    false
+// The command that stands after the first word.
+pub(crate) fn rest(command: &[u8]) -> &[u8] {
+    tail(command, part::after(command, 0, PARTING))
 }
 
 // Turns the blanks of a text into the bytes between words.
@@ -92,7 +88,7 @@ fn parted(byte: u8) -> u8 {
 }
 
 // Prints a command as it was given.
-pub fn echo(command: &[u8]) {
+pub(crate) fn echo(command: &[u8]) {
     let words = arguments(command);
     let mut k: usize = 0;
     print::bytes(b"ades ");

@@ -120,7 +120,7 @@ fn part_account(sets: &[u64], sizes: &[u32], first: usize, end: usize) -> Block
 }
 
 // The sum of two numbers, at most the largest.
-fn sum(a: u64, b: u64) -> u64 {
+pub(crate) fn sum(a: u64, b: u64) -> u64 {
     if a <= LARGEST - b { a + b } else { LARGEST }
 }
 

@@ -1,7 +1,8 @@
 // `ades list`: every value of every observation.
-use crate::explain;
-use crate::request;
+use crate::status::DONE;
+use crate::status::REFUSED;
 use element::ELEMENTS;
+use explain::elements::print_name;
 use inspect::ENTRIES;
 use inspect::ROWS;
 use report::answer::Checked;
@@ -10,7 +11,7 @@ use report::index::value_of;
 use words::print;
 
 // Prints the observations of a report, or its refusal.
-pub fn list(report: &[u8]) {
+pub(crate) fn list(report: &[u8]) -> usize {
     let mut sets = [0u64; ROWS];
     let mut starts = [0u16; ENTRIES];
     let mut lengths = [0u16; ENTRIES];
@@ -18,8 +19,12 @@ pub fn list(report: &[u8]) {
         Checked::Accepted(count) => {
             print::accepted_line(count);
             list_rows(report, count, &sets, &starts, &lengths);
+            DONE
         }
-        Checked::Refused(refusal) => explain::refused(report, refusal),
+        Checked::Refused(refusal) => {
+            explain::refused(report, refusal);
+            REFUSED
+        }
     }
 }
 
@@ -61,7 +66,7 @@ fn print_value(element: usize, value: &[u8]) {
     }
     if element < ELEMENTS {
         print::bytes(b"  ");
-        request::print_name(element + 1);
+        print_name(element + 1);
         print::bytes(b" ");
         print::bytes(value);
         print::line_end();

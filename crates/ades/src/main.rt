@@ -1,21 +1,26 @@
 // ades: reports of observations checked, shown, valued, listed, packed, joined and audited.
+mod asking;
 mod auditing;
 mod blocks;
 mod checking;
 mod command;
+mod commands;
 mod costing;
 mod error;
-mod explain;
+mod faults;
 mod file;
 mod help;
 mod joining;
-mod line;
 mod listing;
 mod packing;
 mod request;
+mod sameness;
 mod script;
 mod showing;
+mod sources;
+mod status;
 mod valuing;
+mod version;
 
 use command::Gathered;
 use text::part::front;
@@ -23,7 +28,7 @@ use text::part::front;
 fn main() {
     let mut space = io::large_buffer();
     match command::gather(&mut space) {
-        Gathered::Length(length) => script::obey(front(&space, length)),
+        Gathered::Length(length) => script::start(front(&space, length)),
         Gathered::TooLong => error::tell(b"the words of the command are too long"),
     }
 }

@@ -1,9 +1,8 @@
 // What a command asks for: an element of an observation, as a person names them.
 use crate::command::word;
 use crate::error;
-use element::name::put_whole;
-use element::table::LONGEST;
-use text::part::front;
+use explain::elements::print_name;
+use explain::names::print_hint;
 use words::number::Number;
 use words::print;
 
@@ -32,23 +31,15 @@ fn element_of(observation: usize, word: &[u8]) -> Request {
     let element = element::name::number(word);
     if element == 0 {
         error::tell_about(b"no element is called ", word);
+        print_hint(word);
         return Request::Wrong;
     }
     Request::Of(observation, element)
 }
 
 // Prints `NAME of observation N`.
-pub fn print_asked(observation: usize, element: usize) {
+pub(crate) fn print_asked(observation: usize, element: usize) {
     print_name(element);
     print::bytes(b" of observation ");
     print::number(observation as u64);
-}
-
-// Prints the name of an element, by its number.
-pub fn print_name(element: usize) {
-    let mut name = [0u8; LONGEST];
-    if 0 < element {
-        let length = put_whole(element - 1, &mut name);
-        print::bytes(front(&name, length));
-    }
 }

@@ -1,150 +1,148 @@
 // Commands obeyed: one, or those of a file, one a line.
+use crate::asking;
 use crate::auditing;
 use crate::checking;
 use crate::command;
 use crate::command::word;
+use crate::commands;
+use crate::commands::Command;
 use crate::error;
+use crate::faults;
 use crate::file;
-use crate::file::Input;
 use crate::file::SPACE;
 use crate::help;
 use crate::joining;
 use crate::listing;
 use crate::packing;
 use crate::showing;
+use crate::status;
+use crate::status::DONE;
+use crate::status::FAILED;
 use crate::valuing;
+use crate::version;
+use files::Input;
 use inspect::part;
 use text::part::front;
 use text::part::same;
 
-// The commands by name.
-pub enum Command {
-    Check,
-    Show,
-    Value,
-    List,
-    Pack,
-    Join,
-    Audit,
-    Run,
-    Help,
-    Unknown,
-}
-
-// Obeys a command.
-pub fn obey(command: &[u8]) {
-    match named(word(command, 0)) {
-        Command::Run => run(command),
-        _ => obey_one(command),
+// Obeys the program's words; after `--status` the script is told how the command went.
+pub(crate) fn start(command: &[u8]) {
+    if same(word(command, 0), b"--status") {
+        status::tell(obey(command::rest(command)));
+    } else {
+        obey(command);
     }
 }
 
-// Obeys the commands of a file.
-fn run(command: &[u8]) {
-    if command::wants(command, 1, b"run FILE") {
-        let name = word(command, 1);
-        let mut space = [0u8; SPACE];
-        if let Input::Length(length) = file::read(name, &mut space) {
-            if length < SPACE {
-                command::part_words(&mut space);
-                obey_lines(front(&space, length));
-            } else {
-                error::tell_about(b"too long for a file of commands: ", name);
-            }
-        }
+// Obeys a command, and says how it went.
+fn obey(command: &[u8]) -> usize {
+    let row = commands::row_of(word(command, 0));
+    match commands::command_at(row) {
+        Command::Run => run(command, row),
+        kind => obey_one(kind, row, command),
     }
 }
 
-// Obeys the commands of a text, one a line, each printed before its answer; empty lines are passed over.
-fn obey_lines(text: &[u8]) {
+// Obeys the commands of a file, and says how the worst of them went.
+fn run(command: &[u8], row: usize) -> usize {
+    if wrong_use(command, row) {
+        return FAILED;
+    }
+    let mut space = [0u8; SPACE];
+    let name = word(command, 1);
+    let Input::Length(length) = file::read(name, &mut space) else {
+        return FAILED;
+    };
+    if SPACE <= length {
+        error::tell_about(b"too long for a file of commands: ", name);
+        return FAILED;
+    }
+    command::part_words(&mut space);
+    obey_lines(front(&space, length))
+}
+
+// Obeys the commands of a text, one a line, each printed before its answer; empty lines are passed over. Says how the worst went.
+fn obey_lines(text: &[u8]) -> usize {
+    let mut worst: usize = DONE;
     let mut at: usize = 0;
     while at < text.len() {
-        let command = part::part(text, at, b'\n');
-        if 0 < command.len() {
-            command::echo(command);
-            obey_one(command);
-        }
+        worst = status::worse(worst, obey_line(part::part(text, at, b'\n')));
         at = part::after(text, at, b'\n');
+    }
+    worst
+}
+
+// Obeys a command of a file, printed before its answer; nothing for an empty line.
+fn obey_line(command: &[u8]) -> usize {
+    if command.len() == 0 {
+        return DONE;
+    }
+    let row = commands::row_of(word(command, 0));
+    command::echo(command);
+    match commands::command_at(row) {
+        Command::Run => {
+            error::tell(b"a file of commands cannot run another");
+            FAILED
+        }
+        kind => obey_one(kind, row, command),
     }
 }
 
-// Obeys a command that is not `run`.
-fn obey_one(command: &[u8]) {
-    let name = word(command, 0);
-    let kind = named(name);
+// Whether a command has not as many words as it wants; then its usage is told.
+fn wrong_use(command: &[u8], row: usize) -> bool {
+    if commands::takes(row, command::arguments(command)) {
+        return false;
+    }
+    error::tell_usage(row);
+    true
+}
+
+// Obeys a command that is not `run`, and says how it went.
+fn obey_one(kind: Command, row: usize, command: &[u8]) -> usize {
+    if let Command::Unknown = kind {
+        help::unknown(word(command, 0));
+        return FAILED;
+    }
+    if wrong_use(command, row) {
+        return FAILED;
+    }
     match kind {
+        Command::Check => checking::obey(command),
         Command::Join => joining::obey(command),
-        Command::Run => error::tell(b"a file of commands cannot run another"),
-        Command::Help => help::obey(),
-        Command::Unknown => help::unknown(name),
+        Command::Audit => auditing::obey(command),
+        Command::Element => asking::element(word(command, 1)),
+        Command::Refusal => asking::refusal(word(command, 1)),
+        Command::Help | Command::Version => tell(kind),
         _ => obey_about(kind, command),
     }
 }
 
-// Obeys a command about one report, the one that its first argument names.
-fn obey_about(kind: Command, command: &[u8]) {
-    if has_words(kind, command) {
-        let mut space = [0u8; SPACE];
-        if let Input::Length(length) = file::read(word(command, 1), &mut space) {
-            answer(kind, command, front(&space, length));
-        }
+// Obeys a command that tells of the program.
+fn tell(kind: Command) -> usize {
+    match kind {
+        Command::Version => version::obey(),
+        _ => help::obey(),
     }
+    DONE
 }
 
-// Whether a command about one report has as many words as it wants; where it has not, its usage is told.
-fn has_words(kind: Command, command: &[u8]) -> bool {
-    match kind {
-        Command::Check => command::wants(command, 1, b"check FILE"),
-        Command::Show => command::wants(command, 3, b"show FILE OBSERVATION ELEMENT"),
-        Command::Value => command::wants(command, 3, b"value FILE OBSERVATION ELEMENT"),
-        Command::List => command::wants(command, 1, b"list FILE"),
-        Command::Pack => command::wants(command, 2, b"pack FILE OUT"),
-        Command::Audit => command::wants(command, 1, b"audit FILE"),
-        _ => false,
+// Obeys a command about one report, the one that its first argument names.
+fn obey_about(kind: Command, command: &[u8]) -> usize {
+    let mut space = [0u8; SPACE];
+    match file::read(word(command, 1), &mut space) {
+        Input::Length(length) => answer(kind, command, front(&space, length)),
+        Input::Failed => FAILED,
     }
 }
 
 // Answers a command about a report.
-fn answer(kind: Command, command: &[u8], report: &[u8]) {
+fn answer(kind: Command, command: &[u8], report: &[u8]) -> usize {
     match kind {
-        Command::Check => checking::check(report),
         Command::Show => showing::obey(command, report),
         Command::Value => valuing::obey(command, report),
         Command::List => listing::list(report),
+        Command::Faults => faults::list(report),
         Command::Pack => packing::pack_into(word(command, 2), report),
-        Command::Audit => auditing::audit(report),
-        _ => {}
+        _ => FAILED,
     }
-}
-
-// The command of a name.
-fn named(name: &[u8]) -> Command {
-    if same(name, b"check") {
-        return Command::Check;
-    }
-    if same(name, b"show") {
-        return Command::Show;
-    }
-    if same(name, b"value") {
-        return Command::Value;
-    }
-    if same(name, b"list") {
-        return Command::List;
-    }
-    if same(name, b"pack") {
-        return Command::Pack;
-    }
-    if same(name, b"join") {
-        return Command::Join;
-    }
-    if same(name, b"audit") {
-        return Command::Audit;
-    }
-    if same(name, b"run") {
-        return Command::Run;
-    }
-    if same(name, b"help") {
-        return Command::Help;
-    }
-    Command::Unknown
 }

@@ -1,27 +1,31 @@
 // `ades value`: a value as an exact number.
-use crate::explain;
 use crate::request;
 use crate::request::Request;
+use crate::status::DONE;
+use crate::status::FAILED;
+use crate::status::REFUSED;
 use report::answer::Valued;
 use words::print;
 
 // Obeys `value FILE OBSERVATION ELEMENT` of the report that the file holds.
-pub fn obey(command: &[u8], report: &[u8]) {
-    if let Request::Of(observation, element) = request::asked(command) {
-        value(report, observation, element);
+pub(crate) fn obey(command: &[u8], report: &[u8]) -> usize {
+    match request::asked(command) {
+        Request::Of(observation, element) => value(report, observation, element),
+        Request::Wrong => FAILED,
     }
 }
 
 // Prints the value, or why there is none.
-fn value(report: &[u8], observation: usize, element: usize) {
+fn value(report: &[u8], observation: usize, element: usize) -> usize {
     let answer = report::value(report, observation, element);
     if let Valued::Refused(refusal) = answer {
         explain::refused(report, refusal);
-        return;
+        return REFUSED;
     }
     print::value_line(answer);
     request::print_asked(observation, element);
     print_meaning(answer);
+    DONE
 }
 
 // Prints what the numbers of a value mean.

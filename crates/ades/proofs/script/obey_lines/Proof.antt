@@ -8,10 +8,10 @@ use Rattle.ades.proofs.script.obey_lines.Statement.{statement}
 use Rattle.ades.proofs.script.obey_lines.Tie as tie
 
 abbrev Inv-loop : tie.InvT-loop
-Inv-loop text at₀ at = Unit {0}
+Inv-loop text worst₀ at₀ worst at = Unit {0}
 
 abbrev μ-loop : tie.MeasureT-loop
-μ-loop text at₀ at = length text - at
+μ-loop text worst₀ at₀ worst at = length text - at
 
 loop-holds : tie.Need-loop-holds Inv-loop μ-loop
 loop-holds c = search needs
@@ -19,20 +19,21 @@ loop-holds c = search needs
 part-requires : tie.Need-part-requires Inv-loop μ-loop
 part-requires c κs = search needs
 
-echo-requires : tie.Need-echo-requires Inv-loop μ-loop
-echo-requires c κs = search needs
+obey-line-requires : tie.Need-obey-line-requires Inv-loop μ-loop
+obey-line-requires c κs = search needs
 
-obey-one-requires : tie.Need-obey-one-requires Inv-loop μ-loop
-obey-one-requires c κs = search needs
+worse-requires : tie.Need-worse-requires Inv-loop μ-loop
+worse-requires c κs = search needs
 
 after-requires : tie.Need-after-requires Inv-loop μ-loop
 after-requires c κs = search needs
 
 loop-less : tie.Need-loop-less Inv-loop μ-loop
 loop-less c =
-    let text = c .before .before .before .before .before .before .args .text .now in
-    let at = c .before .before .before .before .loop .at in
-    omega (arith, c .after .ensures, after-within text at 10, after-further text at 10 (c .before .before .before .loop-test .taken))
+    let test = c .before .before .before .before in
+    let text = test .before .before .before .args .text .now in
+    let at = test .before .loop .at in
+    omega (arith, c .after .ensures, after-within text at 10, after-further text at 10 (test .loop-test .taken))
 
 loop-again : tie.Need-loop-again Inv-loop μ-loop
 loop-again c = search needs
@@ -48,8 +49,8 @@ obey-lines-spec =
     μ-loop
     loop-holds
     part-requires
-    echo-requires
-    obey-one-requires
+    obey-line-requires
+    worse-requires
     after-requires
     loop-less
     loop-again

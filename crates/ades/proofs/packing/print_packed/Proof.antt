@@ -1,12 +1,9 @@
--- `ades::packing::keep` never traps, and ends.
+-- `ades::packing::print_packed` never traps, and ends.
 use native.Mathlib.Omega.{arith}
 use lib.ListN.{length-take}
 use borrow.Author.Needs.{needs}
-use Rattle.ades.proofs.packing.keep.Statement.{statement}
-use Rattle.ades.proofs.packing.keep.Tie as tie
-
-write-requires : tie.Need-write-requires
-write-requires c κs = search needs
+use Rattle.ades.proofs.packing.print_packed.Statement.{statement}
+use Rattle.ades.proofs.packing.print_packed.Tie as tie
 
 slice-aggregate-fill-rows : tie.Need-slice-aggregate-fill-rows
 slice-aggregate-fill-rows c = search needs
@@ -38,14 +35,8 @@ slice-aggregate-bytes-3 c = search needs
 bytes-requires-3 : tie.Need-bytes-requires-3
 bytes-requires-3 c κs = search needs
 
-number-requires-3 : tie.Need-number-requires-3
-number-requires-3 c κs = search needs
-
-slice-aggregate-bytes-4 : tie.Need-slice-aggregate-bytes-4
-slice-aggregate-bytes-4 c = search needs
-
-bytes-requires-4 : tie.Need-bytes-requires-4
-bytes-requires-4 c κs = search needs
+print-count-requires : tie.Need-print-count-requires
+print-count-requires c κs = search needs
 
 array-share-prefix-rows : tie.Need-array-share-prefix-rows
 array-share-prefix-rows c = search needs
@@ -59,14 +50,10 @@ print-rows-requires c κs = search needs
 returns : tie.Need-returns
 returns c = search needs
 
-returns-2 : tie.Need-returns-2
-returns-2 c = search needs
-
-pub keep-spec : {M : Type 1} → statement M
-keep-spec =
+pub print-packed-spec : {M : Type 1} → statement M
+print-packed-spec =
     tie.close
     (tie.spec
-    write-requires
     slice-aggregate-fill-rows
     fill-rows-requires
     slice-aggregate-bytes
@@ -77,11 +64,8 @@ keep-spec =
     number-requires-2
     slice-aggregate-bytes-3
     bytes-requires-3
-    number-requires-3
-    slice-aggregate-bytes-4
-    bytes-requires-4
+    print-count-requires
     array-share-prefix-rows
     slice-aggregate-print-rows
     print-rows-requires
-    returns
-    returns-2)
+    returns)

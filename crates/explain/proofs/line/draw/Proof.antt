@@ -1,10 +1,10 @@
--- `ades::line::draw` never traps, and ends.
+-- `explain::line::draw` never traps, and ends.
 use lib.ListN.{length}
 use Prim.Native.Nat.{_-_}
 use mathlib.Core.Path.{_≡_}
 use borrow.Author.Needs.{needs}
-use Rattle.ades.proofs.line.draw.Statement.{statement}
-use Rattle.ades.proofs.line.draw.Tie as tie
+use Rattle.explain.proofs.line.draw.Statement.{statement}
+use Rattle.explain.proofs.line.draw.Tie as tie
 
 abbrev Inv-loop : tie.InvT-loop
 Inv-loop space₀ from i₀ space i = length space ≡ length space₀

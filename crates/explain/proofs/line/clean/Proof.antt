@@ -1,10 +1,10 @@
--- `ades::line::clean` never traps, and ends.
+-- `explain::line::clean` never traps, and ends.
 use lib.ListN.{length}
 use Prim.Native.Nat.{_-_}
 use mathlib.Core.Path.{_≡_}
 use borrow.Author.Needs.{needs}
-use Rattle.ades.proofs.line.clean.Statement.{statement}
-use Rattle.ades.proofs.line.clean.Tie as tie
+use Rattle.explain.proofs.line.clean.Statement.{statement}
+use Rattle.explain.proofs.line.clean.Tie as tie
 
 abbrev Inv-loop : tie.InvT-loop
 Inv-loop line space₀ i₀ space i = length space ≡ length space₀

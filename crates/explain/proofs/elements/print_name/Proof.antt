@@ -1,4 +1,4 @@
--- `ades::request::print_name` never traps, and ends.
+-- `explain::elements::print_name` never traps, and ends.
 use Prim.Native.Nat.{_-_}
 use mathlib.Core.Path.{sym, ap, _∙_}
 use lib.ListN.{length, replicate}
@@ -6,8 +6,8 @@ use Rattle.text.proofs.Outputs.{over-length}
 use Rattle.element.specs.Table.{nameOf}
 use Rattle.element.proofs.Names.{longest, name-short}
 use borrow.Author.Needs.{needs}
-use Rattle.ades.proofs.request.print_name.Statement.{statement}
-use Rattle.ades.proofs.request.print_name.Tie as tie
+use Rattle.explain.proofs.elements.print_name.Statement.{statement}
+use Rattle.explain.proofs.elements.print_name.Tie as tie
 
 sub-put-whole : tie.Need-sub-put-whole
 sub-put-whole c = search needs

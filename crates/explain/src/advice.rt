@@ -1,0 +1,106 @@
+// What to do about a refusal, from the line that it falls on.
+use crate::elements;
+use crate::names;
+use crate::refusals;
+use inspect::line::element_at;
+use inspect::line::field;
+use inspect::line::first_present;
+use inspect::oddity::Oddity;
+use inspect::oddity::first_oddity;
+use refusal::Kind;
+use text::part::front;
+use text::part::tail;
+use words::print;
+
+// Prints what to do about a refusal at a place of a line, under a column line.
+pub(crate) fn print_advice(kind: Kind, line: &[u8], columns: &[u8], place: usize) {
+    match kind {
+        Kind::TooWide | Kind::WrongForm | Kind::OutOfRange => elements::print_rule(element_at(
+            columns,
+            place,
+        )),
+        Kind::GroupIncomplete => print_need(line, columns, place),
+        Kind::UnknownColumn => print_column(line, place),
+        Kind::WrongByte | Kind::VersionExpected | Kind::FieldCountDiffers => {
+            print_odd(kind, line);
+        }
+        _ => refusals::print_advice(kind),
+    }
+}
+
+// Prints which element needs the missing one.
+fn print_need(line: &[u8], columns: &[u8], missing: usize) {
+    let group = group_of(missing);
+    let present = first_present(line, columns, group.first, group.last);
+    if 0 < present {
+        elements::print_name(present);
+        print::bytes(b" needs ");
+        elements::print_name(missing);
+        print::bytes(b".\n");
+    }
+    refusals::print_advice(Kind::GroupIncomplete);
+}
+
+// Elements that stand together, by their first and last number.
+struct Group {
+    first: usize,
+    last: usize,
+}
+
+// The elements of which one needs a missing element: those of the location, those of the photometry, or the correlation.
+fn group_of(missing: usize) -> Group {
+    if missing <= 13 {
+        Group { first: 9, last: 13 }
+    } else if missing <= 20 {
+        Group {
+            first: 21,
+            last: 21,
+        }
+    } else {
+        Group {
+            first: 23,
+            last: 27,
+        }
+    }
+}
+
+// Prints what to do about a column whose name is no element's.
+fn print_column(line: &[u8], place: usize) {
+    let found = field(line, place);
+    names::print_hint(front(tail(line, found.start), found.length));
+    print_odd(Kind::UnknownColumn, line);
+}
+
+// Prints what is odd about a line; what to do about a kind of refusal where nothing is.
+fn print_odd(kind: Kind, line: &[u8]) {
+    match first_oddity(line) {
+        Oddity::Nothing => refusals::print_advice(kind),
+        odd => print_oddity(odd),
+    }
+}
+
+// Prints what is odd about a line, and what to do about it.
+fn print_oddity(odd: Oddity) {
+    match odd {
+        Oddity::ByteOrderMark => print::bytes(
+            b"The text begins with a byte order mark, EF BB BF: save it without one.\n",
+        ),
+        Oddity::Tab => print::bytes(
+            b"It is a tab: fields are parted by bars and padded with blanks.\n",
+        ),
+        Oddity::CarriageReturn => print::bytes(
+            b"It is a carriage return: a line ends with a line feed alone.\n",
+        ),
+        Oddity::BlankLine => print::bytes(b"The line is blank: take it out.\n"),
+        Oddity::BlankAfterVersion => print::bytes(
+            b"A blank follows the version line: it is `# version=2022`, byte by byte.\n",
+        ),
+        Oddity::OtherEdition => print::bytes(
+            b"This box takes edition 2022 alone: the version line is `# version=2022`, byte by byte.\n",
+        ),
+        Oddity::HeaderLine => print::bytes(
+            b"A header line, as `# observatory`, is outside this box's scope: take it out.\n",
+        ),
+        Oddity::Nothing => {}
+    }
+}
