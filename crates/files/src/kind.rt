@@ -20,7 +20,7 @@ pub(crate) enum Kind {
 pub(crate) fn of_name(name: &[u8]) -> Kind {
     if is_path(name) {
         let path = path(name);
-        kind_of(mode(&path))
+        kind_of(mode(&path), name)
     } else {
         Kind::Missing
     }
@@ -32,10 +32,10 @@ fn is_path(name: &[u8]) -> bool {
     (name.len() < PATH_MAX) & (before_zero == name.len())
 }
 
-// The kind that a mode says. Mode 0 is that of a file that could not be looked at just now.
-fn kind_of(mode: u32) -> Kind {
+// The kind that a mode says. Mode 0 is that of a file of the name that could not be looked at just now.
+fn kind_of(mode: u32, name: &[u8]) -> Kind {
     if mode == 0 {
-        return unseen();
+        return unseen(name);
     }
     if mode & S_IFMT == S_IFREG {
         Kind::Regular
@@ -44,9 +44,10 @@ fn kind_of(mode: u32) -> Kind {
     }
 }
 
-// The kind of a file that could not be looked at just now.
-fn unseen() -> Kind {
-    if os::errno() == libc::ENOENT {
+// The kind of a file of the name that could not be looked at just now. No file has an empty name, and none can be given it.
+fn unseen(name: &[u8]) -> Kind {
+    let missing = os::errno() == libc::ENOENT;
+    if missing & (0 < name.len()) {
         Kind::Missing
     } else {
         Kind::Unknown
