@@ -5,3 +5,5 @@ pub mod OddityLaws
 pub mod PartLaws
 pub mod Same
 pub mod TableLaws
+pub mod SuggestionLaws
+pub mod Suggestions

@@ -5,6 +5,7 @@ pub mod line;
 pub mod oddity;
 pub mod part;
 pub mod table;
+pub mod suggestion;
 
 use element::ELEMENTS;
 use report::ROW_LIMIT;
