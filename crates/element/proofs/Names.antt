@@ -92,7 +92,7 @@ unfolding index-test indexOf indexIn same
 index-name index h = eqb→eq _ _ (below index-test elements tt index h)
 
 -- Where a search finds a name, that name stands.
-found : (all : List (List ℕ)) (name : List ℕ) → indexIn all name < length all → same name (getD all (indexIn all name) []) ≡ true
+pub found : (all : List (List ℕ)) (name : List ℕ) → indexIn all name < length all → same name (getD all (indexIn all name) []) ≡ true
 unfolding indexIn
 found [] name h = absurd (omega arith)
 found (first ∷ rest) name h = bools (same name first) (λ e. rw e e) (λ e. rw e (found rest name (omega (arith, rw e at h))))
