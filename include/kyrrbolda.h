@@ -1,16 +1,22 @@
 /* kyrrbolda.h: the proved reporting box, as C and C++ see it.
  *
- * The library checks a report of ADES observations (pipe-separated text, edition 2022), shows and values each element, and packs
- * a report into the shortest one that holds the same observations. docs/PROMISES.md says what is proved of each function.
+ * The library checks a report of ADES observations (pipe-separated text, edition 2022), shows and values each element, packs a
+ * report into the shortest one that holds the same observations, and names the elements. docs/PROMISES.md says what is proved of
+ * each function.
  *
  * Link target/staticlib/libkyrrbolda.a, which `rt staticlib kyrrbolda` writes for x86-64.
  *
  * For every call:
  *  - Any bytes of any length may be handed in. A pointer is never null: an empty report or output is a valid pointer with length 0.
- *  - The report is only read. Report and output must not overlap.
+ *  - A report or a name is only read. Report and output must not overlap.
  *  - No memory is kept, allocated or freed; calls from several threads at once do not disturb one another.
+ *  - Stack, the return address included: 2,048 bytes are enough for kyrr_check, kyrr_show and kyrr_value, 61,440 for kyrr_pack, of
+ *    one row as of 256, and 512 for kyrr_name and kyrr_element. Measured and not proved, with the library as `rt staticlib` builds
+ *    it with LLVM 22.1.8; docs/SPEED.md has the exact figures. A program that binds memcpy and memset only at their first call
+ *    needs 4,096 more for that.
  *  - `refused` is 0, or the number of the refusal (kyrr_refusal below); `line` and `place` say where it is. Where a call is refused
- *    the other fields are 0 and no lent byte has changed. Where it is not, `line` and `place` are 0.
+ *    the other fields are 0 and no lent byte has changed. Where it is not, `line` and `place` are 0. kyrr_name and kyrr_element
+ *    refuse nothing: they answer 0 where there is no such element.
  *  - Lines and observations count from 1. `place` is the column's position from 1 for refusals 6 to 10, the element number for 11
  *    to 13, and else 0. `line` is 0 for a fault of the whole text or of the request (1, 15, 16, 17).
  */
@@ -32,8 +38,12 @@ extern "C" {
 #define KYRR_ROW_LIMIT 256
 
 /* The elements, numbered from 1 in this order: permID, provID, artSat, trkSub, obsID, obsSubID, mode, stn, sys, ctr, pos1, pos2,
- * pos3, prog, obsTime, rmsTime, ra, dec, rmsRA, rmsDec, rmsCorr, astCat, mag, rmsMag, band, photCat, photAp, notes, remarks. */
+ * pos3, prog, obsTime, rmsTime, ra, dec, rmsRA, rmsDec, rmsCorr, astCat, mag, rmsMag, band, photCat, photAp, notes, remarks.
+ * kyrr_name gives these names, kyrr_element these numbers. */
 #define KYRR_ELEMENTS 29
+
+/* The bytes of the longest name of an element. */
+#define KYRR_NAME_LIMIT 8
 
 /* Why a call is refused: always the first fault, in the order of the rules. */
 enum kyrr_refusal {
@@ -89,6 +99,15 @@ kyrr_valued kyrr_value(const uint8_t *report, size_t report_length, uint64_t obs
  * The packed report reads as the same observations in the same order, and no report that does is shorter. Refusals of kyrr_check;
  * then 15, exactly where the output is shorter than the packed report. The empty report packs to nothing: length 0. */
 kyrr_packed kyrr_pack(const uint8_t *report, size_t report_length, uint8_t *output, size_t output_length);
+
+/* The length of the name of an element, 0 where no element has that number. Writes the name over the start of the output, with no
+ * byte 0 after it, where there is room for all of it; the bytes of the output after it stay as they were. Where the output is
+ * shorter than the name no byte of it changes, and the length is given all the same: ask with length 0 for the length alone. */
+uint64_t kyrr_name(uint64_t element, uint8_t *output, size_t output_length);
+
+/* The number of the element of a name, from 1; 0 where no element has that name. A name is exactly the bytes of the list above:
+ * another case, a blank, or a byte 0 at its end makes it none. */
+uint64_t kyrr_element(const uint8_t *name, size_t name_length);
 
 #ifdef __cplusplus
 }
