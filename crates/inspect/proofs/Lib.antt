@@ -4,6 +4,6 @@ pub mod LineLaws
 pub mod OddityLaws
 pub mod PartLaws
 pub mod Same
-pub mod TableLaws
 pub mod SuggestionLaws
 pub mod Suggestions
+pub mod TableLaws

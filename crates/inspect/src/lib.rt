@@ -4,8 +4,8 @@ pub mod comparison;
 pub mod line;
 pub mod oddity;
 pub mod part;
-pub mod table;
 pub mod suggestion;
+pub mod table;
 
 use element::ELEMENTS;
 use report::ROW_LIMIT;
