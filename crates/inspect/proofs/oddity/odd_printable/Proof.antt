@@ -1,7 +1,5 @@
 -- `inspect::oddity::odd_printable` meets its contract.
-use borrow.Author.Tests.{eq-eqb, ne-eqb}
-use mathlib.Core.Path.{sym, _∙_}
-use Rattle.inspect.specs.Oddity.{oddPrintable, isBlank, isHeader}
+use Rattle.inspect.proofs.OddityLaws.{printable-blank, printable-version, printable-header, printable-plain}
 use borrow.Author.Needs.{needs}
 use Rattle.inspect.proofs.oddity.odd_printable.Statement.{statement}
 use Rattle.inspect.proofs.oddity.odd_printable.Tie as tie
@@ -10,8 +8,7 @@ leading-blanks-requires : tie.Need-leading-blanks-requires
 leading-blanks-requires c κs = search needs
 
 returns : tie.Need-returns
-unfolding oddPrintable isBlank isHeader
-returns c = rw (eq-eqb _ _ (sym (c .before .leading-blanks .ensures .0) ∙ c .if1 .taken))
+returns c = printable-blank _ _ (c .before .leading-blanks .ensures .0) (c .if1 .taken)
 
 slice-aggregate-starts-in : tie.Need-slice-aggregate-starts-in
 slice-aggregate-starts-in c = search needs
@@ -23,19 +20,16 @@ odd-version-requires : tie.Need-odd-version-requires
 odd-version-requires c κs = search needs
 
 returns-2 : tie.Need-returns-2
-unfolding oddPrintable isBlank isHeader
-returns-2 c = rw (← c .before .before .before .before .before .leading-blanks .ensures .0, ne-eqb _ _ (c .before .before .before .before .if1 .left), sym (c .before .before .starts-in .ensures) ∙ c .before .if2 .taken) (c .odd-version .ensures)
+returns-2 c = printable-version _ _ (c .before .before .before .before .before .leading-blanks .ensures .0) (c .before .before .before .before .if1 .left) _ (c .before .before .starts-in .ensures) (c .before .if2 .taken) _ (c .odd-version .ensures)
 
 at-requires : tie.Need-at-requires
 at-requires c κs = search needs
 
 returns-3 : tie.Need-returns-3
-unfolding oddPrintable isBlank isHeader
-returns-3 c = rw (← c .before .before .before .before .before .before .leading-blanks .ensures .0, ne-eqb _ _ (c .before .before .before .before .before .if1 .left), sym (c .before .before .before .starts-in .ensures) ∙ c .before .before .if2 .left, ← c .before .at .ensures, c .if3 .taken)
+returns-3 c = printable-header _ _ (c .before .before .before .before .before .before .leading-blanks .ensures .0) (c .before .before .before .before .before .if1 .left) _ (c .before .before .before .starts-in .ensures) (c .before .before .if2 .left) _ (c .before .at .ensures) (c .if3 .taken)
 
 returns-4 : tie.Need-returns-4
-unfolding oddPrintable isBlank isHeader
-returns-4 c = rw (← c .before .before .before .before .before .before .leading-blanks .ensures .0, ne-eqb _ _ (c .before .before .before .before .before .if1 .left), sym (c .before .before .before .starts-in .ensures) ∙ c .before .before .if2 .left, ← c .before .at .ensures, c .if3 .left)
+returns-4 c = printable-plain _ _ (c .before .before .before .before .before .before .leading-blanks .ensures .0) (c .before .before .before .before .before .if1 .left) _ (c .before .before .before .starts-in .ensures) (c .before .before .if2 .left) _ (c .before .at .ensures) (c .if3 .left)
 
 pub odd-printable-spec : {M : Type 1} → statement M
 odd-printable-spec =

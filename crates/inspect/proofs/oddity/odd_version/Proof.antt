@@ -1,7 +1,5 @@
 -- `inspect::oddity::odd_version` meets its contract.
-use Rattle.inspect.proofs.OddityLaws.{words-are}
-use mathlib.Core.Path.{sym, _∙_}
-use Rattle.inspect.specs.Oddity.{oddVersion}
+use Rattle.inspect.proofs.OddityLaws.{version-right, version-blanks, version-other}
 use borrow.Author.Needs.{needs}
 use Rattle.inspect.proofs.oddity.odd_version.Statement.{statement}
 use Rattle.inspect.proofs.oddity.odd_version.Tie as tie
@@ -13,8 +11,7 @@ same-requires : tie.Need-same-requires
 same-requires c κs = search needs
 
 returns : tie.Need-returns
-unfolding oddVersion
-returns c = rw (sym (c .before .same .ensures) ∙ c .if1 .taken)
+returns c = version-right _ _ (c .before .same .ensures) (c .if1 .taken)
 
 trimmed-requires : tie.Need-trimmed-requires
 trimmed-requires c κs = search needs
@@ -32,16 +29,16 @@ same-requires-2 : tie.Need-same-requires-2
 same-requires-2 c κs = search needs
 
 returns-2 : tie.Need-returns-2
-unfolding oddVersion
 returns-2 c =
-    let seen = c .before .before .before .before .before in
-    rw (sym (seen .before .before .same .ensures) ∙ seen .before .if1 .left, words-are (seen .trimmed .ensures) _ _ _ (c .before .before .before .before .tail .ensures) (c .before .before .before .front .ensures) (c .before .same2 .ensures) ∙ c .if2 .taken)
+    let front = c .before .before .before in
+    let trimmed = front .before .before in
+    version-blanks _ _ (trimmed .before .before .same .ensures) (trimmed .before .if1 .left) (trimmed .trimmed .ensures) _ _ (front .before .tail .ensures) (front .front .ensures) _ (c .before .same2 .ensures) (c .if2 .taken)
 
 returns-3 : tie.Need-returns-3
-unfolding oddVersion
 returns-3 c =
-    let seen = c .before .before .before .before .before in
-    rw (sym (seen .before .before .same .ensures) ∙ seen .before .if1 .left, words-are (seen .trimmed .ensures) _ _ _ (c .before .before .before .before .tail .ensures) (c .before .before .before .front .ensures) (c .before .same2 .ensures) ∙ c .if2 .left)
+    let front = c .before .before .before in
+    let trimmed = front .before .before in
+    version-other _ _ (trimmed .before .before .same .ensures) (trimmed .before .if1 .left) (trimmed .trimmed .ensures) _ _ (front .before .tail .ensures) (front .front .ensures) _ (c .before .same2 .ensures) (c .if2 .left)
 
 pub odd-version-spec : {M : Type 1} → statement M
 odd-version-spec =
