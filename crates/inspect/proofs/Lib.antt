@@ -1,5 +1,6 @@
 pub mod BlockLaws
 pub mod ComparisonLaws
+pub mod Distance
 pub mod LineLaws
 pub mod OddityLaws
 pub mod PartLaws
