@@ -1,4 +1,5 @@
-// What a person is told about a text beside its answers: parts of it, its lines and columns, and how it compares with another.
+// What a person is told about a text beside its answers: parts of it, its lines and columns, what is odd about a line, which element a name
+// may have been meant for, and how the text compares with another.
 pub mod blocks;
 pub mod comparison;
 pub mod line;
