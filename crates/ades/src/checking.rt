@@ -1,4 +1,4 @@
-// `ades check`: how many observations a report has, or its first fault.
+// `ades check` and `ades faults`: how many observations a report has, or its first fault, or all that can be told.
 use crate::command::arguments;
 use crate::command::word;
 use crate::file;
@@ -7,6 +7,7 @@ use crate::status::DONE;
 use crate::status::FAILED;
 use crate::status::REFUSED;
 use crate::status::worse;
+use explain::faults;
 use files::Input;
 use report::answer::Checked;
 use text::part::front;
@@ -50,6 +51,21 @@ fn check(report: &[u8], several: bool) -> usize {
         }
         Checked::Refused(refusal) => {
             explain::refused(report, refusal);
+            REFUSED
+        }
+    }
+}
+
+// Prints what checking a report comes to, and the faults after the first.
+pub(crate) fn list_faults(report: &[u8]) -> usize {
+    match report::check(report) {
+        Checked::Accepted(observations) => {
+            print::accepted_line(observations);
+            print::bytes(b"The report has no fault.\n");
+            DONE
+        }
+        Checked::Refused(refusal) => {
+            faults::print_faults(report, refusal);
             REFUSED
         }
     }

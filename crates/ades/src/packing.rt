@@ -11,12 +11,9 @@ use report::TEXT_LIMIT;
 use text::part::front;
 use words::print;
 
-// The room for a packed report: as much as a report may have.
-pub(crate) const OUTPUT: usize = TEXT_LIMIT;
-
 // Packs a report into a file, and tells how long it was and is; or tells its refusal, and writes nothing.
 pub(crate) fn pack_into(name: &[u8], report: &[u8]) -> usize {
-    let mut output = [0u8; OUTPUT];
+    let mut output = [0u8; TEXT_LIMIT];
     match pack::pack(report, &mut output) {
         Packed::Length(length) => keep(name, front(&output, length), report.len()),
         Packed::Refused(refusal) => {

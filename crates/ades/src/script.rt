@@ -7,7 +7,6 @@ use crate::command::word;
 use crate::commands;
 use crate::commands::Command;
 use crate::error;
-use crate::faults;
 use crate::file;
 use crate::file::SPACE;
 use crate::help;
@@ -141,7 +140,7 @@ fn answer(kind: Command, command: &[u8], report: &[u8]) -> usize {
         Command::Show => showing::obey(command, report),
         Command::Value => valuing::obey(command, report),
         Command::List => listing::list(report),
-        Command::Faults => faults::list(report),
+        Command::Faults => checking::list_faults(report),
         Command::Pack => packing::pack_into(word(command, 2), report),
         _ => FAILED,
     }

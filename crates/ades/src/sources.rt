@@ -1,7 +1,6 @@
 // The files that a command names after its first argument: reports, read one after the other as one text.
 use crate::command::arguments;
 use crate::command::word;
-use crate::costing::sum;
 use crate::error;
 use crate::file;
 use crate::status::FAILED;
@@ -11,6 +10,7 @@ use report::ROW_LIMIT;
 use report::answer::Checked;
 use text::part::front;
 use text::part::tail;
+use words::number::sum;
 use words::print;
 
 // The most files: a report has no more observations.
@@ -145,20 +145,20 @@ fn print_numbers(before: u64, till: u64) {
     }
 }
 
-// An observation of a file, both by number; file 0 where there is none.
+// An observation of a file, by its number and the word that names the file; word 0 where there is none.
 struct Whose {
-    file: usize,
+    word: usize,
     observation: usize,
 }
 
 // Prints which observation of which file one of all of them is.
 pub(crate) fn print_whose(command: &[u8], joined: &[u8], ends: &[usize], observation: usize) {
     let whose = source_of(joined, ends, arguments(command), observation);
-    if 0 < whose.file {
+    if 0 < whose.word {
         print::bytes(b"observation ");
         print::number(whose.observation as u64);
-        print::bytes(b" of source ");
-        print::number(whose.file as u64);
+        print::bytes(b" of ");
+        print::bytes(word(command, whose.word));
     } else {
         print::bytes(b"after the last of the sources");
     }
@@ -172,7 +172,7 @@ fn source_of(joined: &[u8], ends: &[usize], files: usize, observation: usize) ->
         let count = observations(source(joined, ends, k));
         if number <= count {
             return Whose {
-                file: k,
+                word: k + 1,
                 observation: number,
             };
         }
@@ -180,7 +180,7 @@ fn source_of(joined: &[u8], ends: &[usize], files: usize, observation: usize) ->
         k += 1;
     }
     Whose {
-        file: 0,
+        word: 0,
         observation,
     }
 }

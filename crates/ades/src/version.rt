@@ -4,14 +4,9 @@ use report::ROW_LIMIT;
 use report::TEXT_LIMIT;
 use words::print;
 
-// Prints the program's name and version.
-pub(crate) fn print_version() {
-    print::bytes(b"kyrrbolda 1.0");
-}
-
 // Obeys `version`.
 pub(crate) fn obey() {
-    print_version();
+    print::version();
     print::bytes(b"\nADES pipe-separated text, edition 2022. Elements: ");
     print::number(ELEMENTS as u64);
     print::bytes(b". Limits of a report: ");

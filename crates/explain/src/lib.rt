@@ -1,6 +1,7 @@
 // A refusal in words: its fixed line, the rule, the offending line with a mark under the field, and what to do.
 mod advice;
 pub mod elements;
+pub mod faults;
 mod line;
 pub mod names;
 mod places;

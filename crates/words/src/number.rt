@@ -2,7 +2,7 @@
 use text::class;
 use text::class::Class;
 ghost use mathlib.Core.Path.{_≡_};
-ghost use Prim.Native.Nat.{min};
+ghost use Prim.Native.Nat.{_+_, min};
 ghost use lib.IntN.{natAbs};
 ghost use Rattle.text.specs.Digits.{after as put, number as made};
 ghost use Rattle.words.specs.Numbers.{largest, numberIn};
@@ -54,6 +54,13 @@ fn after(n: u64, byte: u8) -> u64
         return LARGEST;
     }
     n
+}
+
+// The sum of two numbers, at most the largest.
+pub fn sum(a: u64, b: u64) -> u64
+    ensures { λ r. ⌜ r ≡ min (a + b) largest ⌝ }
+{
+    if a <= LARGEST - b { a + b } else { LARGEST }
 }
 
 // A signed number without its sign.

@@ -28,6 +28,11 @@ pub fn line_end() {
     bytes(b"\n");
 }
 
+// Prints the box's name and version.
+pub fn version() {
+    bytes(b"kyrrbolda 1.0");
+}
+
 // Prints `accepted N`, or the refusal.
 pub fn check_line(answer: Checked) {
     match answer {

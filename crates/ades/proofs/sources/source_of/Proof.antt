@@ -19,6 +19,9 @@ source-requires c κs = search needs
 observations-requires : tie.Need-observations-requires Inv-loop μ-loop
 observations-requires c κs = search needs
 
+add-t10 : tie.Need-add-t10 Inv-loop μ-loop
+add-t10 c = search needs
+
 returns : tie.Need-returns Inv-loop μ-loop
 returns c = search needs
 
@@ -46,6 +49,7 @@ source-of-spec =
     loop-holds
     source-requires
     observations-requires
+    add-t10
     returns
     sub-number
     add-k

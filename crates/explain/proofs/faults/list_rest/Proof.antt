@@ -1,12 +1,12 @@
--- `ades::faults::list_rest` never traps, and ends.
+-- `explain::faults::list_rest` never traps, and ends.
 use Prim.Native.Nat.{_-_}
 use mathlib.Core.Path.{_≡_}
 use lib.ListN.{length}
 use native.Mathlib.Omega.{arith}
 use Rattle.inspect.proofs.PartLaws.{after-within, after-further}
 use borrow.Author.Needs.{needs}
-use Rattle.ades.proofs.faults.list_rest.Statement.{statement}
-use Rattle.ades.proofs.faults.list_rest.Tie as tie
+use Rattle.explain.proofs.faults.list_rest.Statement.{statement}
+use Rattle.explain.proofs.faults.list_rest.Tie as tie
 
 abbrev Inv-loop : tie.InvT-loop
 Inv-loop report first told₀ space₀ known₀ start₀ number₀ told space known start number = (length told ≡ length told₀) × (length space ≡ length space₀)

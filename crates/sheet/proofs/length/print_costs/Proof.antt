@@ -1,9 +1,9 @@
--- `ades::auditing::print_costs` never traps, and ends.
+-- `sheet::length::print_costs` never traps, and ends.
 use native.Mathlib.Omega.{arith}
 use lib.ListN.{length-take}
 use borrow.Author.Needs.{needs}
-use Rattle.ades.proofs.auditing.print_costs.Statement.{statement}
-use Rattle.ades.proofs.auditing.print_costs.Tie as tie
+use Rattle.sheet.proofs.length.print_costs.Statement.{statement}
+use Rattle.sheet.proofs.length.print_costs.Tie as tie
 
 slice-aggregate-fill-sizes : tie.Need-slice-aggregate-fill-sizes
 slice-aggregate-fill-sizes c = search needs

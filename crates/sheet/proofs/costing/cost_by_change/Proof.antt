@@ -1,9 +1,9 @@
--- `ades::costing::cost_by_change` never traps, and ends.
+-- `sheet::costing::cost_by_change` never traps, and ends.
 use Prim.Native.Nat.{_-_, _≤_}
 use lib.ListN.{length}
 use borrow.Author.Needs.{needs}
-use Rattle.ades.proofs.costing.cost_by_change.Statement.{statement}
-use Rattle.ades.proofs.costing.cost_by_change.Tie as tie
+use Rattle.sheet.proofs.costing.cost_by_change.Statement.{statement}
+use Rattle.sheet.proofs.costing.cost_by_change.Tie as tie
 
 abbrev Inv-loop : tie.InvT-loop
 Inv-loop sets sizes total₀ first₀ total first = first ≤ length sets

@@ -1,9 +1,9 @@
--- `ades::costing::print_blocks` never traps, and ends.
+-- `sheet::costing::print_blocks` never traps, and ends.
 use native.Mathlib.Omega.{arith}
 use lib.ListN.{length-take}
 use borrow.Author.Needs.{needs}
-use Rattle.ades.proofs.costing.print_blocks.Statement.{statement}
-use Rattle.ades.proofs.costing.print_blocks.Tie as tie
+use Rattle.sheet.proofs.costing.print_blocks.Statement.{statement}
+use Rattle.sheet.proofs.costing.print_blocks.Tie as tie
 
 slice-aggregate-fill-rows : tie.Need-slice-aggregate-fill-rows
 slice-aggregate-fill-rows c = search needs

@@ -2,13 +2,11 @@
 use account::Block;
 use inspect::ROWS;
 use inspect::blocks::fill_rows;
+use words::number::sum;
 use words::print;
 ghost use Prim.Native.Nat.{_≤_};
 ghost use mathlib.Core.Path.{_≡_};
 ghost use lib.ListN.{length};
-
-// The largest sum that is told apart.
-const LARGEST: u64 = 18446744073709551615;
 
 // Prints the account of a packed report block by block, and what other blocks of the same rows would have cost.
 pub(crate) fn print_costs(report: &[u8], packed: &[u8], sets: &[u64], sizes: &[u32])
@@ -117,11 +115,6 @@ fn part_account(sets: &[u64], sizes: &[u32], first: usize, end: usize) -> Block
     requires { ⌜ (first ≤ end) × (end ≤ length (now sets)) × (length (now sizes) ≡ length (now sets)) ⌝ }
 {
     account::account(&sets[first..end], &sizes[first..end])
-}
-
-// The sum of two numbers, at most the largest.
-pub(crate) fn sum(a: u64, b: u64) -> u64 {
-    if a <= LARGEST - b { a + b } else { LARGEST }
 }
 
 // Prints the account of a block, by its number.

@@ -1,11 +1,8 @@
-// `ades faults`: the first fault of a report, and after it the first fault of each later line, as far as that makes sense. The first is what
-// `check` answers; the others are help for a person. Each line is judged by itself, as the last line of a report of its block's column line
+// The faults of a report: the first, and after it the first of each later line, as far as that makes sense. The first is what `check`
+// answers; the others are help for a person. Each line is judged by itself, as the last line of a report of its block's column line
 // and itself alone.
-use crate::file::SPACE;
-use crate::status::DONE;
-use crate::status::REFUSED;
-use explain::refusals;
-use explain::refusals::REFUSALS;
+use crate::refusals;
+use crate::refusals::REFUSALS;
 use inspect::oddity::Oddity;
 use inspect::oddity::first_oddity;
 use inspect::part;
@@ -13,6 +10,7 @@ use refusal::Fault;
 use refusal::Kind;
 use refusal::Refusal;
 use report::ROW_LIMIT;
+use report::TEXT_LIMIT;
 use report::answer::Checked;
 use text::output::put;
 use text::part::at;
@@ -38,23 +36,8 @@ struct Known {
     rows: usize,
 }
 
-// Prints what checking a report comes to, and the faults after the first.
-pub(crate) fn list(report: &[u8]) -> usize {
-    match report::check(report) {
-        Checked::Accepted(observations) => {
-            print::accepted_line(observations);
-            print::bytes(b"The report has no fault.\n");
-            DONE
-        }
-        Checked::Refused(refusal) => {
-            list_faults(report, refusal);
-            REFUSED
-        }
-    }
-}
-
 // Prints the first fault of a report and those after it, and the rules that are broken.
-fn list_faults(report: &[u8], first: Refusal) {
+pub fn print_faults(report: &[u8], first: Refusal) {
     let mut told = [0u8; MARKS];
     print_refusal(first, &mut told);
     list_rest(report, first.line, &mut told);
@@ -69,7 +52,7 @@ fn list_rest(report: &[u8], first: usize, told: &mut [u8]) {
     if first == 0 {
         return;
     }
-    let mut space = [0u8; SPACE];
+    let mut space = [0u8; TEXT_LIMIT];
     let mut known = Known {
         before: Before::Nothing,
         columns: 0,
@@ -210,7 +193,11 @@ fn columns_known(start: usize, rows: usize, sound: bool) -> Known {
 
 // The number of the line after one; no text has more lines than bytes.
 fn next(number: usize) -> usize {
-    if number < SPACE { number + 1 } else { number }
+    if number < TEXT_LIMIT {
+        number + 1
+    } else {
+        number
+    }
 }
 
 // One data line more, up to the limit.

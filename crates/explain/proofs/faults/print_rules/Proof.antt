@@ -1,9 +1,9 @@
--- `ades::faults::print_rules` never traps, and ends.
+-- `explain::faults::print_rules` never traps, and ends.
 use Prim.Native.Nat.{_-_}
 use lib.ListN.{length}
 use borrow.Author.Needs.{needs}
-use Rattle.ades.proofs.faults.print_rules.Statement.{statement}
-use Rattle.ades.proofs.faults.print_rules.Tie as tie
+use Rattle.explain.proofs.faults.print_rules.Statement.{statement}
+use Rattle.explain.proofs.faults.print_rules.Tie as tie
 
 abbrev Inv-loop : tie.InvT-loop
 Inv-loop told number₀ number = Unit {0}
