@@ -1,10 +1,10 @@
 // `ades audit`: the auditor's sheet. It answers whether a report is accepted, whether it holds the observations of its sources, whether its
 // packed report holds the same, and why that one is as long as it is.
 use crate::command::arguments;
+use crate::command::rest;
 use crate::command::word;
 use crate::file;
 use crate::file::SPACE;
-use crate::sameness;
 use crate::sources;
 use crate::sources::FILES;
 use crate::sources::Joined;
@@ -12,6 +12,7 @@ use crate::status::DONE;
 use crate::status::FAILED;
 use crate::status::REFUSED;
 use files::Input;
+use inspect::comparison::Compared;
 use inspect::comparison::compare;
 use report::answer::Checked;
 use text::part::front;
@@ -77,12 +78,24 @@ fn print_compared(
     joined: &[u8],
     ends: &[usize],
 ) -> usize {
+    let names = rest(command);
     let found = compare(joined, report);
-    sameness::print_first(found);
+    sheet::sources::print_first(found);
     sheet::print_heading(word(command, 1), report.len(), count);
-    sources::print_files(command, joined, ends);
+    sheet::sources::print_sources(names, joined, ends);
     sheet::print_report();
-    sameness::print_answer(command, report, joined, ends, found);
-    sheet::print_packing(report, b"   Does the packed report hold the same, too? ");
-    sameness::status_of(found)
+    sheet::sources::print_answer(names, report, joined, ends, found);
+    sheet::print_packing(
+        report,
+        b"   Does its packed report hold the observations of the report, in the same order? ",
+    );
+    status_of(found)
+}
+
+// How a comparison went.
+fn status_of(found: Compared) -> usize {
+    match found {
+        Compared::Same(_) => DONE,
+        _ => REFUSED,
+    }
 }

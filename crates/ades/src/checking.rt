@@ -1,4 +1,4 @@
-// `ades check` and `ades faults`: how many observations a report has, or its first fault, or all that can be told.
+// `ades check`, `ades faults` and `ades list`: how many observations a report has, its faults, its observations.
 use crate::command::arguments;
 use crate::command::word;
 use crate::file;
@@ -7,6 +7,7 @@ use crate::status::DONE;
 use crate::status::FAILED;
 use crate::status::REFUSED;
 use crate::status::worse;
+use answers::list::print_list;
 use explain::faults;
 use files::Input;
 use report::answer::Checked;
@@ -66,6 +67,21 @@ pub(crate) fn list_faults(report: &[u8]) -> usize {
         }
         Checked::Refused(refusal) => {
             faults::print_faults(report, refusal);
+            REFUSED
+        }
+    }
+}
+
+// Prints the observations of a report, or its refusal.
+pub(crate) fn list(report: &[u8]) -> usize {
+    match report::check(report) {
+        Checked::Accepted(observations) => {
+            print::accepted_line(observations);
+            print_list(report);
+            DONE
+        }
+        Checked::Refused(refusal) => {
+            explain::refused(report, refusal);
             REFUSED
         }
     }

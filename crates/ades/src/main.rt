@@ -1,7 +1,6 @@
 // ades: reports of observations checked, shown, valued, listed, packed, joined and audited.
 mod asking;
 mod auditing;
-mod blocks;
 mod checking;
 mod command;
 mod commands;
@@ -9,10 +8,8 @@ mod error;
 mod file;
 mod help;
 mod joining;
-mod listing;
 mod packing;
 mod request;
-mod sameness;
 mod script;
 mod showing;
 mod sources;

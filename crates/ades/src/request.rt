@@ -1,10 +1,8 @@
 // What a command asks for: an element of an observation, as a person names them.
 use crate::command::word;
 use crate::error;
-use explain::elements::print_name;
 use explain::names::print_hint;
 use words::number::Number;
-use words::print;
 
 // An observation and an element by their numbers, or words that name none, which has been told.
 pub(crate) enum Request {
@@ -35,11 +33,4 @@ fn element_of(observation: usize, word: &[u8]) -> Request {
         return Request::Wrong;
     }
     Request::Of(observation, element)
-}
-
-// Prints `NAME of observation N`.
-pub(crate) fn print_asked(observation: usize, element: usize) {
-    print_name(element);
-    print::bytes(b" of observation ");
-    print::number(observation as u64);
 }

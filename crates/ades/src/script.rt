@@ -11,7 +11,6 @@ use crate::file;
 use crate::file::SPACE;
 use crate::help;
 use crate::joining;
-use crate::listing;
 use crate::packing;
 use crate::showing;
 use crate::status;
@@ -139,7 +138,7 @@ fn answer(kind: Command, command: &[u8], report: &[u8]) -> usize {
     match kind {
         Command::Show => showing::obey(command, report),
         Command::Value => valuing::obey(command, report),
-        Command::List => listing::list(report),
+        Command::List => checking::list(report),
         Command::Faults => checking::list_faults(report),
         Command::Pack => packing::pack_into(word(command, 2), report),
         _ => FAILED,

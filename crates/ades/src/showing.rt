@@ -4,8 +4,8 @@ use crate::request::Request;
 use crate::status::DONE;
 use crate::status::FAILED;
 use crate::status::REFUSED;
+use answers::shown;
 use report::answer::Showing;
-use words::print;
 
 // Obeys `show FILE OBSERVATION ELEMENT` of the report that the file holds.
 pub(crate) fn obey(command: &[u8], report: &[u8]) -> usize {
@@ -19,21 +19,11 @@ pub(crate) fn obey(command: &[u8], report: &[u8]) -> usize {
 fn show(report: &[u8], observation: usize, element: usize) -> usize {
     match report::showing(report, observation, element) {
         Showing::At(start, length) => {
-            print::bytes(b"shown ");
-            print::bytes(report::shown(report, observation, element));
-            print::line_end();
-            request::print_asked(observation, element);
-            print::bytes(b": ");
-            print::number(length as u64);
-            print::bytes(b" bytes after the first ");
-            print::number(start as u64);
-            print::bytes(b" of the report.\n");
+            shown::print_shown(report, observation, element, start, length);
             DONE
         }
         Showing::Absent => {
-            print::bytes(b"absent\n");
-            request::print_asked(observation, element);
-            print::bytes(b" is not there.\n");
+            shown::print_absent(observation, element);
             DONE
         }
         Showing::Refused(refusal) => {

@@ -9,11 +9,9 @@ use files::Input;
 use report::ROW_LIMIT;
 use report::answer::Checked;
 use text::part::front;
-use text::part::tail;
-use words::number::sum;
 use words::print;
 
-// The most files: a report has no more observations.
+// The most files, the output among them: no report has more observations.
 pub(crate) const FILES: usize = ROW_LIMIT;
 
 // What reading came to: so many bytes in all, or how it failed, which has been told.
@@ -85,126 +83,17 @@ fn is_report(text: &[u8], name: &[u8]) -> bool {
         Checked::Accepted(_) => true,
         Checked::Refused(refusal) => {
             explain::refused(text, refusal);
-            print_culprit(name);
+            print::bytes(b"The fault is in ");
+            print::bytes(name);
+            print::bytes(b".\n");
             false
         }
     }
-}
-
-// Prints whose fault it is.
-pub(crate) fn print_culprit(name: &[u8]) {
-    print::bytes(b"The fault is in ");
-    print::bytes(name);
-    print::bytes(b".\n");
 }
 
 // Notes where a file ends.
 fn note(ends: &mut [usize], k: usize, till: usize) {
     if k < ends.len() {
         ends[k] = till;
-    }
-}
-
-// Prints the files: the name, the bytes and the observations of each.
-pub(crate) fn print_files(command: &[u8], joined: &[u8], ends: &[usize]) {
-    let files = arguments(command);
-    let mut before: u64 = 0;
-    let mut k: usize = 1;
-    while k < files {
-        let text = source(joined, ends, k);
-        before = print_file(k, word(command, k + 1), text, before);
-        k += 1;
-    }
-}
-
-// Prints a file, by its number: its name, its bytes and its observations, so many of the others standing before them; says how many stand
-// before those of the next.
-fn print_file(number: usize, name: &[u8], text: &[u8], before: u64) -> u64 {
-    let till = sum(before, observations(text) as u64);
-    print::bytes(b"Source ");
-    print::number(number as u64);
-    print::bytes(b": ");
-    print::bytes(name);
-    print::bytes(b", ");
-    print::number(text.len() as u64);
-    print::bytes(b" bytes, ");
-    print_numbers(before, till);
-    till
-}
-
-// Prints the observations after one and up to another, by their numbers.
-fn print_numbers(before: u64, till: u64) {
-    if before < till {
-        print::bytes(b"observations ");
-        print::number(before + 1);
-        print::bytes(b" to ");
-        print::number(till);
-        print::bytes(b".\n");
-    } else {
-        print::bytes(b"no observations.\n");
-    }
-}
-
-// An observation of a file, by its number and the word that names the file; word 0 where there is none.
-struct Whose {
-    word: usize,
-    observation: usize,
-}
-
-// Prints which observation of which file one of all of them is.
-pub(crate) fn print_whose(command: &[u8], joined: &[u8], ends: &[usize], observation: usize) {
-    let whose = source_of(joined, ends, arguments(command), observation);
-    if 0 < whose.word {
-        print::bytes(b"observation ");
-        print::number(whose.observation as u64);
-        print::bytes(b" of ");
-        print::bytes(word(command, whose.word));
-    } else {
-        print::bytes(b"after the last of the sources");
-    }
-}
-
-// Which observation of which file one of all of them is.
-fn source_of(joined: &[u8], ends: &[usize], files: usize, observation: usize) -> Whose {
-    let mut number = observation;
-    let mut k: usize = 1;
-    while k < files {
-        let count = observations(source(joined, ends, k));
-        if number <= count {
-            return Whose {
-                word: k + 1,
-                observation: number,
-            };
-        }
-        number -= count;
-        k += 1;
-    }
-    Whose {
-        word: 0,
-        observation,
-    }
-}
-
-// The text of a file among those that were read.
-fn source<'a>(joined: &'a [u8], ends: &[usize], k: usize) -> &'a [u8] {
-    let start = end_of(ends, less(k, 1));
-    front(tail(joined, start), less(end_of(ends, k), start))
-}
-
-// Where a file ends; 0 for one that was not noted.
-fn end_of(ends: &[usize], k: usize) -> usize {
-    if k < ends.len() { ends[k] } else { 0 }
-}
-
-// The first number less the second; 0 where it is smaller.
-fn less(first: usize, second: usize) -> usize {
-    if second < first { first - second } else { 0 }
-}
-
-// How many observations a text holds; none where it is no report.
-fn observations(text: &[u8]) -> usize {
-    match report::check(text) {
-        Checked::Accepted(count) => count,
-        Checked::Refused(_) => 0,
     }
 }

@@ -50,8 +50,8 @@ pub fn print_all(element: usize) {
 fn print_entry(row: usize, column: usize) {
     print::bytes(entry(
         b"\n\
-          a number from 1 to 61999999 without leading zero; or a comet's: 1 to 6 digits without leading zero, P or D, perhaps a fragment as -A or -AB|9; above 61999999 in eight digits 10|none|`permID` (crates/value/specs/Designation.antt)|one of permID, provID, artSat and trkSub is needed\n\
-          a minor planet, as 2016 AZ6: four digits, a blank, two capitals, perhaps a number from 1 to 61999; or a comet, as C/1996 J1-A|9; a number above 61999 in five digits 10|none|`provID` (crates/value/specs/Designation.antt)|one of permID, provID, artSat and trkSub is needed\n\
+          a number from 1 to 61999999 without leading zero; or a comet's: 1 to 6 digits without leading zero, P or D, perhaps a fragment as -A or -AB|9; 10 above 61999999 in eight digits|none|`permID` (crates/value/specs/Designation.antt)|one of permID, provID, artSat and trkSub is needed\n\
+          a minor planet, as 2016 AZ6: four digits, a blank, two capitals, perhaps a number from 1 to 61999; or a comet, as C/1996 J1-A|9; 10 for a number above 61999 in five digits|none|`provID` (crates/value/specs/Designation.antt)|one of permID, provID, artSat and trkSub is needed\n\
           four digits, a minus, three digits, 1 to 3 capitals, as 1998-067A|9|none|`artSat` (crates/value/specs/Designation.antt)|one of permID, provID, artSat and trkSub is needed\n\
           1 to 8 letters, digits, underscores or inner blanks|8, 9|none|`alphanumeric` (crates/value/specs/Characters.antt)|one of permID, provID, artSat and trkSub is needed\n\
           1 to 25 letters, digits, underscores or inner blanks|8, 9|none|`alphanumeric` (crates/value/specs/Characters.antt)|as you like\n\
@@ -64,19 +64,19 @@ fn print_entry(row: usize, column: usize) {
           a decimal, perhaps after a sign, at most 13 bytes without its sign|8, 9|its digits, and how many of them are places|`decimal` (crates/value/specs/Decimal.antt)|with sys, ctr, pos1 and pos3, all or none\n\
           a decimal, perhaps after a sign, at most 13 bytes without its sign|8, 9|its digits, and how many of them are places|`decimal` (crates/value/specs/Decimal.antt)|with sys, ctr, pos1 and pos2, all or none\n\
           1 or 2 letters, digits, underscores or inner blanks|8, 9|none|`alphanumeric` (crates/value/specs/Characters.antt)|as you like\n\
-          yyyy-mm-ddThh:mm:ss, perhaps a point and 1 to 6 digits, then Z; a date from year 0001 on, a time from 00:00:00 to 23:59:59|9; no such date or time 10|the day, 0 on 1858-11-17, and the microseconds of the day|`obsTime` (crates/value/specs/Time.antt)|needed\n\
-          a decimal above 0, at most 8 bytes|8, 9; zero 10|its digits, and how many of them are places|`decimal` (crates/value/specs/Decimal.antt)|as you like\n\
-          degrees from 0 to below 360: 1 to 3 digits without leading zero, perhaps a point and 1 to 9 digits|9; 360 and above 10|in units of 0.000000001 degree|`rightAscension` (crates/value/specs/Angle.antt)|needed\n\
-          degrees from -90 to 90: perhaps a sign, 1 or 2 digits without leading zero, perhaps a point and 1 to 9 digits|9; beyond 90 10|in units of 0.000000001 degree|`declination` (crates/value/specs/Angle.antt)|needed\n\
-          a decimal above 0, at most 7 bytes|8, 9; zero 10|its digits, and how many of them are places|`decimal` (crates/value/specs/Decimal.antt)|needed with rmsCorr\n\
-          a decimal above 0, at most 7 bytes|8, 9; zero 10|its digits, and how many of them are places|`decimal` (crates/value/specs/Decimal.antt)|needed with rmsCorr\n\
-          a decimal from -1 to 1, perhaps after a sign, at most 13 bytes without its sign|8, 9; beyond 1 10|its digits, and how many of them are places|`correlation` (crates/value/specs/Decimal.antt)|needs rmsRA and rmsDec\n\
+          yyyy-mm-ddThh:mm:ss, perhaps a point and 1 to 6 digits, then Z; a date from year 0001 on, a time from 00:00:00 to 23:59:59|9; 10 where there is no such date or time|the day, 0 on 1858-11-17, and the microseconds of the day|`obsTime` (crates/value/specs/Time.antt)|needed\n\
+          a decimal above 0, at most 8 bytes|8, 9; 10 for zero|its digits, and how many of them are places|`decimal` (crates/value/specs/Decimal.antt)|as you like\n\
+          degrees from 0 to below 360: 1 to 3 digits without leading zero, perhaps a point and 1 to 9 digits|9; 10 from 360 on|in units of 0.000000001 degree|`rightAscension` (crates/value/specs/Angle.antt)|needed\n\
+          degrees from -90 to 90: perhaps a sign, 1 or 2 digits without leading zero, perhaps a point and 1 to 9 digits|9; 10 beyond 90|in units of 0.000000001 degree|`declination` (crates/value/specs/Angle.antt)|needed\n\
+          a decimal above 0, at most 7 bytes|8, 9; 10 for zero|its digits, and how many of them are places|`decimal` (crates/value/specs/Decimal.antt)|needed with rmsCorr\n\
+          a decimal above 0, at most 7 bytes|8, 9; 10 for zero|its digits, and how many of them are places|`decimal` (crates/value/specs/Decimal.antt)|needed with rmsCorr\n\
+          a decimal from -1 to 1, perhaps after a sign, at most 13 bytes without its sign|8, 9; 10 beyond 1|its digits, and how many of them are places|`correlation` (crates/value/specs/Decimal.antt)|needs rmsRA and rmsDec\n\
           1 to 8 letters, digits, underscores or inner blanks|8, 9|none|`alphanumeric` (crates/value/specs/Characters.antt)|needed\n\
           a decimal, perhaps after a sign, at most 6 bytes without its sign|8, 9|its digits, and how many of them are places|`decimal` (crates/value/specs/Decimal.antt)|needs band; needed with rmsMag, band, photCat and photAp\n\
-          a decimal above 0, at most 6 bytes|8, 9; zero 10|its digits, and how many of them are places|`decimal` (crates/value/specs/Decimal.antt)|needs mag and band\n\
+          a decimal above 0, at most 6 bytes|8, 9; 10 for zero|its digits, and how many of them are places|`decimal` (crates/value/specs/Decimal.antt)|needs mag and band\n\
           1 to 3 letters, digits, underscores or inner blanks|8, 9|none|`alphanumeric` (crates/value/specs/Characters.antt)|needs mag; needed with mag, rmsMag, photCat and photAp\n\
           1 to 8 letters, digits, underscores or inner blanks|8, 9|none|`alphanumeric` (crates/value/specs/Characters.antt)|needs mag and band\n\
-          a decimal above 0, at most 6 bytes|8, 9; zero 10|its digits, and how many of them are places|`decimal` (crates/value/specs/Decimal.antt)|needs mag and band\n\
+          a decimal above 0, at most 6 bytes|8, 9; 10 for zero|its digits, and how many of them are places|`decimal` (crates/value/specs/Decimal.antt)|needs mag and band\n\
           1 to 6 letters, digits, underscores or inner blanks|8, 9|none|`alphanumeric` (crates/value/specs/Characters.antt)|as you like\n\
           at most 300 bytes of any kind|8|none|`free` (crates/value/specs/Characters.antt)|as you like\n",
         row,

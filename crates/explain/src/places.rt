@@ -72,8 +72,7 @@ fn print_byte(text: &[u8]) {
 fn print_column(text: &[u8], columns: &[u8], place: usize) {
     let found = field(text, place);
     let element = element_at(columns, place);
-    print::bytes(b"Column ");
-    print::number(place as u64);
+    print::between(b"Column ", place as u64, b"");
     if 0 < element {
         print::bytes(b", ");
         elements::print_name(element);
@@ -100,19 +99,16 @@ fn print_which(element: usize) {
         print::bytes(b"Elements 1 to 4, permID, provID, artSat and trkSub:\n");
         return;
     }
-    print::bytes(b"Element ");
-    print::number(element as u64);
-    print::bytes(b", ");
+    print::between(b"Element ", element as u64, b", ");
     elements::print_name(element);
     print::bytes(b":\n");
 }
 
 // Prints a line after the number of its fields and that of the columns.
 fn print_count(text: &[u8], columns: &[u8]) {
-    print::bytes(b"Fields in the line: ");
-    print::number(scan(text).fields as u64);
-    print::bytes(b". Columns: ");
-    print::number(scan(columns).fields as u64);
-    print::bytes(b".\n");
+    let fields = scan(text).fields;
+    let named = scan(columns).fields;
+    print::between(b"Fields in the line: ", fields as u64, b". ");
+    print::between(b"Columns: ", named as u64, b".\n");
     line::print_line(text);
 }

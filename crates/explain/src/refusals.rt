@@ -52,26 +52,22 @@ pub fn print_all(number: usize) {
 
 // Prints the rule that the refusal of a number stands for.
 pub fn print_numbered(number: usize) {
-    print::number(number as u64);
-    print::bytes(b": ");
+    print::between(b"", number as u64, b": ");
     print_entry(number, RULE);
 }
 
 // Prints the limit that a rule speaks of, if it speaks of one.
 fn print_limit(number: usize) {
     match number {
-        1 => print_number(b"The limit is ", TEXT_LIMIT, b" bytes.\n"),
-        14 => print_number(b"The limit is ", ROW_LIMIT, b" data lines.\n"),
-        17 => print_number(b"The elements are numbered from 1 to ", ELEMENTS, b".\n"),
+        1 => print::between(b"The limit is ", TEXT_LIMIT as u64, b" bytes.\n"),
+        14 => print::between(b"The limit is ", ROW_LIMIT as u64, b" data lines.\n"),
+        17 => print::between(
+            b"The elements are numbered from 1 to ",
+            ELEMENTS as u64,
+            b".\n",
+        ),
         _ => {}
     }
-}
-
-// Prints a number between words.
-fn print_number(before: &[u8], number: usize, after: &[u8]) {
-    print::bytes(before);
-    print::number(number as u64);
-    print::bytes(after);
 }
 
 // Prints an entry of the table of refusals, in the row of a refusal's number: the first row is empty.

@@ -15,21 +15,23 @@ pub(crate) fn print_costs(report: &[u8], packed: &[u8], sets: &[u64], sizes: &[u
     let as_cut = cost_as_cut(report, sets, sizes);
     let by_change = cost_by_change(sets, sizes);
     print_blocks(packed, sets, sizes);
-    print_cost(b"   total: ", packed.len() as u64);
-    print_cost(b"   as it came: ", report.len() as u64);
-    print_cost(
+    print::between(b"   total: ", packed.len() as u64, b"\n");
+    print::between(b"   as it came: ", report.len() as u64, b"\n");
+    print::between(
         b"   in the blocks that it came in, without padding: ",
         as_cut,
+        b"\n",
     );
-    print_cost(b"   in one block: ", account::account(sets, sizes).bytes);
-    print_cost(b"   with a block at every change of columns: ", by_change);
-}
-
-// Prints a line of words and a number of bytes.
-fn print_cost(words: &[u8], bytes: u64) {
-    print::bytes(words);
-    print::number(bytes);
-    print::line_end();
+    print::between(
+        b"   in one block: ",
+        account::account(sets, sizes).bytes,
+        b"\n",
+    );
+    print::between(
+        b"   with a block at every change of columns: ",
+        by_change,
+        b"\n",
+    );
 }
 
 // Prints the account of each block of a text that holds the rows.
@@ -119,19 +121,11 @@ fn part_account(sets: &[u64], sizes: &[u32], first: usize, end: usize) -> Block
 
 // Prints the account of a block, by its number.
 fn print_account(number: usize, block: Block) {
-    print::bytes(b"   block ");
-    print::number(number as u64);
-    print::bytes(b": 15 + names ");
-    print::number(block.names);
-    print::bytes(b" + columns ");
-    print::number(block.columns);
-    print::bytes(b" + values ");
-    print::number(block.values);
-    print::bytes(b" + rows ");
-    print::number(block.rows);
-    print::bytes(b" x columns ");
-    print::number(block.columns);
-    print::bytes(b" = ");
-    print::number(block.bytes);
-    print::line_end();
+    print::between(b"   block ", number as u64, b": 15");
+    print::between(b" + names ", block.names, b"");
+    print::between(b" + columns ", block.columns, b"");
+    print::between(b" + values ", block.values, b"");
+    print::between(b" + rows ", block.rows, b"");
+    print::between(b" x columns ", block.columns, b"");
+    print::between(b" = ", block.bytes, b"\n");
 }

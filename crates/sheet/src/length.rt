@@ -9,9 +9,11 @@ use words::print;
 
 // Prints the answer to the third question, of a report and its packed report.
 pub(crate) fn print_length(report: &[u8], packed: &[u8]) {
-    print::bytes(b"3. Why is the packed report ");
-    print::number(packed.len() as u64);
-    print::bytes(b" bytes long?\n");
+    print::between(
+        b"3. Why is the packed report ",
+        packed.len() as u64,
+        b" bytes long?\n",
+    );
     print_account(report, packed);
     print::bytes(
         b"   Proved of every report: its packed report has the bytes of that sum, `written-bytes`\n\

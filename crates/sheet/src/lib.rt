@@ -3,6 +3,7 @@
 mod costing;
 mod length;
 mod sameness;
+pub mod sources;
 
 use explain::refusals;
 use pack::Packed;
@@ -14,9 +15,7 @@ use words::print;
 // Prints which program made the sheet, and of which report: its name, its bytes and its observations.
 pub fn print_heading(name: &[u8], length: usize, count: usize) {
     print_file(name, length);
-    print::bytes(b", ");
-    print::number(count as u64);
-    print::bytes(b" observations.\n");
+    print::between(b", ", count as u64, b" observations.\n");
 }
 
 // Prints which program made the sheet, and of which file of so many bytes.
@@ -25,9 +24,7 @@ fn print_file(name: &[u8], length: usize) {
     print::version();
     print::bytes(b". Report: ");
     print::bytes(name);
-    print::bytes(b", ");
-    print::number(length as u64);
-    print::bytes(b" bytes");
+    print::between(b", ", length as u64, b" bytes");
 }
 
 // Prints the sheet of a refused report after its first line.

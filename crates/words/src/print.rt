@@ -15,6 +15,13 @@ pub fn number(n: u64) {
     io::print_decimal(STDOUT_FILENO, n);
 }
 
+// Prints a number between words.
+pub fn between(before: &[u8], n: u64, after: &[u8]) {
+    bytes(before);
+    number(n);
+    bytes(after);
+}
+
 // Prints a number with its sign.
 pub fn signed(n: i64) {
     if n < 0 {
@@ -43,21 +50,15 @@ pub fn check_line(answer: Checked) {
 
 // Prints `accepted N`.
 pub fn accepted_line(observations: usize) {
-    bytes(b"accepted ");
-    number(observations as u64);
-    line_end();
+    between(b"accepted ", observations as u64, b"\n");
 }
 
 // Prints `refused K line L place P`.
 pub fn refusal_line(refusal: Refusal) {
     let kind = refusal.kind;
-    bytes(b"refused ");
-    number(refusal::number(kind));
-    bytes(b" line ");
-    number(refusal.line as u64);
-    bytes(b" place ");
-    number(refusal.place as u64);
-    line_end();
+    between(b"refused ", refusal::number(kind), b"");
+    between(b" line ", refusal.line as u64, b"");
+    between(b" place ", refusal.place as u64, b"\n");
 }
 
 // Prints `whole N`, `decimal N places P`, `time DAY MICROSECONDS`, `angle N`, `absent`, `no value`, or the refusal.
@@ -84,16 +85,12 @@ fn numbered(word: &[u8], n: i64) {
 fn decimal_line(whole: i64, places: usize) {
     bytes(b"decimal ");
     signed(whole);
-    bytes(b" places ");
-    number(places as u64);
-    line_end();
+    between(b" places ", places as u64, b"\n");
 }
 
 // Prints `time DAY MICROSECONDS`.
 fn time_line(day: i64, microseconds: u64) {
     bytes(b"time ");
     signed(day);
-    bytes(b" ");
-    number(microseconds);
-    line_end();
+    between(b" ", microseconds, b"\n");
 }

@@ -1,8 +1,8 @@
--- `ades::listing::list_row` never traps, and ends.
+-- `answers::list::list_row` never traps, and ends.
 use Prim.Native.Nat.{_-_}
 use borrow.Author.Needs.{needs}
-use Rattle.ades.proofs.listing.list_row.Statement.{statement}
-use Rattle.ades.proofs.listing.list_row.Tie as tie
+use Rattle.answers.proofs.list.list_row.Statement.{statement}
+use Rattle.answers.proofs.list.list_row.Tie as tie
 
 abbrev Inv-loop : tie.InvT-loop
 Inv-loop report row sets starts lengths element₀ element = Unit {0}

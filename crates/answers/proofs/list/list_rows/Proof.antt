@@ -1,8 +1,8 @@
--- `ades::listing::list_rows` never traps, and ends.
+-- `answers::list::list_rows` never traps, and ends.
 use Prim.Native.Nat.{_-_}
 use borrow.Author.Needs.{needs}
-use Rattle.ades.proofs.listing.list_rows.Statement.{statement}
-use Rattle.ades.proofs.listing.list_rows.Tie as tie
+use Rattle.answers.proofs.list.list_rows.Statement.{statement}
+use Rattle.answers.proofs.list.list_rows.Tie as tie
 
 abbrev Inv-loop : tie.InvT-loop
 Inv-loop report count sets starts lengths row₀ row = Unit {0}

@@ -1,6 +1,4 @@
-// `ades list`: every value of every observation.
-use crate::status::DONE;
-use crate::status::REFUSED;
+// Every value of every observation.
 use element::ELEMENTS;
 use explain::elements::print_name;
 use inspect::ENTRIES;
@@ -10,21 +8,13 @@ use report::index::index;
 use report::index::value_of;
 use words::print;
 
-// Prints the observations of a report, or its refusal.
-pub(crate) fn list(report: &[u8]) -> usize {
+// Prints the observations of a report; nothing of a refused one.
+pub fn print_list(report: &[u8]) {
     let mut sets = [0u64; ROWS];
     let mut starts = [0u16; ENTRIES];
     let mut lengths = [0u16; ENTRIES];
-    match index(report, 0, &mut sets, &mut starts, &mut lengths) {
-        Checked::Accepted(count) => {
-            print::accepted_line(count);
-            list_rows(report, count, &sets, &starts, &lengths);
-            DONE
-        }
-        Checked::Refused(refusal) => {
-            explain::refused(report, refusal);
-            REFUSED
-        }
+    if let Checked::Accepted(count) = index(report, 0, &mut sets, &mut starts, &mut lengths) {
+        list_rows(report, count, &sets, &starts, &lengths);
     }
 }
 
@@ -53,9 +43,7 @@ fn list_row(report: &[u8], row: usize, sets: &[u64], starts: &[u16], lengths: &[
 // Prints the number of an observation, counted from 1.
 fn print_heading(row: usize) {
     if row < ROWS {
-        print::bytes(b"observation ");
-        print::number(row as u64 + 1);
-        print::line_end();
+        print::between(b"observation ", row as u64 + 1, b"\n");
     }
 }
 
