@@ -6,8 +6,8 @@ use crate::command::word;
 use crate::file;
 use crate::file::SPACE;
 use crate::sources;
-use crate::sources::FILES;
 use crate::sources::Joined;
+use crate::sources::NAMES;
 use crate::status::DONE;
 use crate::status::FAILED;
 use crate::status::REFUSED;
@@ -57,7 +57,7 @@ fn print_accepted(command: &[u8], report: &[u8], count: usize) -> usize {
 // Prints the sheet of an accepted report with its sources.
 fn print_against(command: &[u8], report: &[u8], count: usize) -> usize {
     let mut space = [0u8; SPACE];
-    let mut ends = [0usize; FILES];
+    let mut ends = [0usize; NAMES];
     match sources::read(command, &mut space, &mut ends) {
         Joined::Till(length) => print_compared(
             command,

@@ -1,7 +1,6 @@
 // The files that a command names after its first argument: reports, read one after the other as one text.
 use crate::command::arguments;
 use crate::command::word;
-use crate::error;
 use crate::file;
 use crate::status::FAILED;
 use crate::status::REFUSED;
@@ -11,8 +10,8 @@ use report::answer::Checked;
 use text::part::front;
 use words::print;
 
-// The most files, the output among them: no report has more observations.
-pub(crate) const FILES: usize = ROW_LIMIT;
+// The most names: as many files as a report may have observations, and the first argument.
+pub(crate) const NAMES: usize = ROW_LIMIT + 1;
 
 // What reading came to: so many bytes in all, or how it failed, which has been told.
 pub(crate) enum Joined {
@@ -22,8 +21,8 @@ pub(crate) enum Joined {
 
 // Reads the files into the space, one after the other, and notes where each ends; each is a report by itself, and so are all together.
 pub(crate) fn read(command: &[u8], space: &mut [u8], ends: &mut [usize]) -> Joined {
-    if FILES < arguments(command) {
-        error::tell(b"too many files");
+    if NAMES < arguments(command) {
+        print::between(b"error too many files: at most ", ROW_LIMIT as u64, b"\n");
         return Joined::Failed(FAILED);
     }
     let joined = read_files(command, space, ends);

@@ -83,7 +83,7 @@ fn print_odd(kind: Kind, line: &[u8]) {
 fn print_oddity(odd: Oddity) {
     match odd {
         Oddity::ByteOrderMark => print::bytes(
-            b"The text begins with a byte order mark, EF BB BF: save it without one.\n",
+            b"The line begins with a byte order mark, EF BB BF: save the text without one.\n",
         ),
         Oddity::Tab => print::bytes(
             b"It is a tab: fields are parted by bars and padded with blanks.\n",

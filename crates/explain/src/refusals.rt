@@ -76,22 +76,39 @@ fn print_entry(row: usize, column: usize) {
         b"\n\
           The text is longer than a report may be.|Part it into several reports.|0|0|`read` (crates/report/specs/Report.antt)\n\
           The line has no line feed.|End the last line with a line feed.|the line|0|`readFrom` (crates/report/specs/Report.antt)\n\
-          The line has a byte outside 0x20 to 0x7E.|Take the byte out, or write it in plain ASCII.|the line|0|`step` (crates/report/specs/Report.antt)\n\
-          A block starts with the line `# version=2022`, and no other line starts with `#`.|Begin the block with the line `# version=2022`, byte by byte.|the line|0|`step`, `other` (crates/report/specs/Report.antt)\n\
-          The block has no column line or no data line.|Give it both, or take its version line out.|the next version line, or the line after the last|0|`opened`, `atEnd` (crates/report/specs/Report.antt)\n\
-          The column has a name that is no element's.|Name an element, letter by letter, or take the column out of every line of the block.|the column line|the column's position, counted from 1|`columnsFrom` (crates/report/specs/Report.antt)\n\
-          The column is named twice.|Take one of the two columns out of every line of the block.|the column line|the position of the second, counted from 1|`columnsFrom` (crates/report/specs/Report.antt)\n\
-          The value is too wide.|Write it within its width: `ades element NAME` says which.|the data line|the column's position, counted from 1|`faultOf` (crates/element/specs/Form.antt)\n\
-          The value has the wrong form.|Write it in its form: `ades element NAME` says which.|the data line|the column's position, counted from 1|`faultOf` (crates/element/specs/Form.antt)\n\
-          The value is out of its range or vocabulary.|Look at the value: `ades element NAME` says its range or its words.|the data line|the column's position, counted from 1|`faultOf` (crates/element/specs/Form.antt)\n\
-          The observation lacks an element that it must have.|An observation has mode, stn, obsTime, ra, dec and astCat, and one of permID, provID, artSat and trkSub.|the data line|the element's number; 1 where elements 1 to 4 are all missing|`faultIn` (crates/element/specs/Observation.antt)\n\
-          The observation has a group of elements that is not complete.|Give the missing element, or leave those out that need it.|the data line|the number of the lowest missing element|`groupFault` (crates/element/specs/Observation.antt)\n\
-          With sys WGS84 the ctr must be 399.|Write 399 as its ctr, or the sys that its position is in.|the data line|10, the number of ctr|`groupFault` (crates/element/specs/Observation.antt)\n\
-          The report has more data lines than it may have.|Part it into several reports.|the first data line past the limit|0|`dataLine` (crates/report/specs/Report.antt)\n\
-          The output is shorter than the packed report.|Lend a longer one: as long as the report is always enough.|0|0|`packedAnswer` (crates/pack/specs/Promise.antt)\n\
-          The report has no observation of that number.|`ades check` says how many it has; they are numbered from 1.|0|0|`showingAnswer`, `valuedAnswer` (crates/report/specs/Answers.antt)\n\
-          There is no element of that number.|`ades element NAME` says the number of an element.|0|0|`showingAnswer`, `valuedAnswer` (crates/report/specs/Answers.antt)\n\
-          The line has not as many fields as there are columns.|Give the line a field for each column, empty where the element is absent.|the data line|0|`dataLine` (crates/report/specs/Report.antt)\n",
+          The line has a byte outside 0x20 to 0x7E.|Take the byte out, or write it in plain ASCII.|the line|0|`step` \
+            (crates/report/specs/Report.antt)\n\
+          A block starts with the line `# version=2022`, and no other line starts with `#`.|Begin the block with the line `# \
+            version=2022`, byte by byte.|the line|0|`step`, `other` (crates/report/specs/Report.antt)\n\
+          The block has no column line or no data line.|Give it both, or take its version line out.|the next version line, or the line \
+            after the last|0|`opened`, `atEnd` (crates/report/specs/Report.antt)\n\
+          The column has a name that is no element's.|Name an element, letter by letter, or take the column out of every line of the \
+            block.|the column line|the column's position, counted from 1|`columnsFrom` (crates/report/specs/Report.antt)\n\
+          The column is named twice.|Take one of the two columns out of every line of the block.|the column line|the position of the \
+            second, counted from 1|`columnsFrom` (crates/report/specs/Report.antt)\n\
+          The value is too wide.|Write it within its width: `ades element NAME` says which.|the data line|the column's position, counted \
+            from 1|`faultOf` (crates/element/specs/Form.antt)\n\
+          The value has the wrong form.|Write it in its form: `ades element NAME` says which.|the data line|the column's position, \
+            counted from 1|`faultOf` (crates/element/specs/Form.antt)\n\
+          The value is out of its range or vocabulary.|Look at the value: `ades element NAME` says its range or its words.|the data line|\
+            the column's position, counted from 1|`faultOf` (crates/element/specs/Form.antt)\n\
+          The observation lacks an element that it must have.|An observation has mode, stn, obsTime, ra, dec and astCat, and one of \
+            permID, provID, artSat and trkSub.|the data line|the element's number; 1 where elements 1 to 4 are all missing|`faultIn` \
+            (crates/element/specs/Observation.antt)\n\
+          The observation has a group of elements that is not complete.|Give the missing element, or leave those out that need it.|the \
+            data line|the number of the lowest missing element|`groupFault` (crates/element/specs/Observation.antt)\n\
+          With sys WGS84 the ctr must be 399.|Write 399 as its ctr, or the sys that its position is in.|the data line|10, the number of \
+            ctr|`groupFault` (crates/element/specs/Observation.antt)\n\
+          The report has more data lines than it may have.|Part it into several reports.|the first data line past the limit|0|`dataLine` \
+            (crates/report/specs/Report.antt)\n\
+          The output is shorter than the packed report.|Lend a longer one: as long as the report is always enough.|0|0|`packedAnswer` \
+            (crates/pack/specs/Promise.antt)\n\
+          The report has no observation of that number.|`ades check` says how many it has; they are numbered from 1.|0|0|`showingAnswer`, \
+            `valuedAnswer` (crates/report/specs/Answers.antt)\n\
+          There is no element of that number.|`ades element NAME` says the number of an element.|0|0|`showingAnswer`, `valuedAnswer` \
+            (crates/report/specs/Answers.antt)\n\
+          The line has not as many fields as there are columns.|Give the line a field for each column, empty where the element is absent.|\
+            the data line|0|`dataLine` (crates/report/specs/Report.antt)\n",
         row,
         column,
     ));

@@ -1,4 +1,4 @@
--- `explain::elements::print_name` never traps, and ends.
+-- `explain::elements::print_entry` never traps, and ends.
 use Prim.Native.Nat.{_-_}
 use mathlib.Core.Path.{sym, ap, _∙_}
 use lib.ListN.{length, replicate}
@@ -6,8 +6,8 @@ use Rattle.text.proofs.Outputs.{over-length}
 use Rattle.element.specs.Table.{nameOf}
 use Rattle.element.proofs.Names.{longest, name-short}
 use borrow.Author.Needs.{needs}
-use Rattle.explain.proofs.elements.print_name.Statement.{statement}
-use Rattle.explain.proofs.elements.print_name.Tie as tie
+use Rattle.explain.proofs.elements.print_entry.Statement.{statement}
+use Rattle.explain.proofs.elements.print_entry.Tie as tie
 
 sub-put-whole : tie.Need-sub-put-whole
 sub-put-whole c = search needs
@@ -23,8 +23,8 @@ slice-aggregate-front c =
 front-requires : tie.Need-front-requires
 front-requires c κs = search needs
 
-bytes-requires : tie.Need-bytes-requires
-bytes-requires c κs = search needs
+print-named-requires : tie.Need-print-named-requires
+print-named-requires c κs = search needs
 
 returns : tie.Need-returns
 returns c = search needs
@@ -32,14 +32,14 @@ returns c = search needs
 returns-2 : tie.Need-returns-2
 returns-2 c = search needs
 
-pub print-name-spec : {M : Type 1} → statement M
-print-name-spec =
+pub print-entry-spec : {M : Type 1} → statement M
+print-entry-spec =
     tie.close
     (tie.spec
     sub-put-whole
     put-whole-requires
     slice-aggregate-front
     front-requires
-    bytes-requires
+    print-named-requires
     returns
     returns-2)
