@@ -1,8 +1,8 @@
 // Names that are no element's of this box: what may have been meant.
 use crate::elements;
 use inspect::part::count;
-use inspect::suggestion::suggested;
 use inspect::table::row;
+use suggestion::suggested;
 use words::print;
 
 // Prints what a name that is no element's may stand for: an ADES element outside this box's scope, or a slip; nothing where it is neither.

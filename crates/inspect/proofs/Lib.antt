@@ -1,10 +1,5 @@
 pub mod BlockLaws
-pub mod ComparisonLaws
-pub mod Distance
 pub mod LineLaws
 pub mod OddityLaws
 pub mod PartLaws
-pub mod Same
-pub mod SuggestionLaws
-pub mod Suggestions
 pub mod TableLaws

@@ -1,11 +1,8 @@
-// What a person is told about a text beside its answers: parts of it, its lines and columns, what is odd about a line, which element a name
-// may have been meant for, and how the text compares with another.
+// What a person is told about a text beside its answers: parts of it and of tables, its lines and columns, its blocks, what is odd about a line.
 pub mod blocks;
-pub mod comparison;
 pub mod line;
 pub mod oddity;
 pub mod part;
-pub mod suggestion;
 pub mod table;
 
 use element::ELEMENTS;

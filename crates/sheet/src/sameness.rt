@@ -1,6 +1,6 @@
 // Whether a packed report holds the observations of its report.
-use inspect::comparison::Compared;
-use inspect::comparison::compare;
+use comparison::Compared;
+use comparison::compare;
 use words::print;
 
 // Prints what comparing a report with its packed report comes to.

@@ -1,7 +1,7 @@
 // The sources of a report: reports that were read one after the other as one text. Of each it is noted where it ends there, by its number;
 // the entry before the first is 0. The names are those of the report and of its sources, parted by bytes 0.
+use comparison::Compared;
 use explain::elements::print_name;
-use inspect::comparison::Compared;
 use inspect::part;
 use report::answer::Checked;
 use text::part::front;
@@ -70,7 +70,7 @@ pub fn print_answer(names: &[u8], report: &[u8], joined: &[u8], ends: &[usize], 
     }
     print::bytes(
         b"   Proved of every two texts: they are the same exactly where both are accepted as one list of\n\
-          \x20  observations, `same-reads`, `reads-same` (crates/inspect/proofs/Same.antt).\n",
+          \x20  observations, `same-reads`, `reads-same` (crates/comparison/proofs/Same.antt).\n",
     );
 }
 

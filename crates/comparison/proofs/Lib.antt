@@ -1,0 +1,2 @@
+pub mod ComparisonLaws
+pub mod Same
