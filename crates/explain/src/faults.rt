@@ -18,6 +18,10 @@ use text::part::front;
 use text::part::tail;
 use words::print;
 
+// The room for a line under a version line and its column line: where the report has a shorter line for its version line, that is more than
+// a text may have.
+const ROOM: usize = TEXT_LIMIT + 15;
+
 // A mark for each refusal that was told, by number.
 const MARKS: usize = REFUSALS + 1;
 
@@ -52,7 +56,7 @@ fn list_rest(report: &[u8], first: usize, told: &mut [u8]) {
     if first == 0 {
         return;
     }
-    let mut space = [0u8; TEXT_LIMIT];
+    let mut space = [0u8; ROOM];
     let mut known = Known {
         before: Before::Nothing,
         columns: 0,
