@@ -1,9 +1,9 @@
 -- The paper's number of each kind of refusal.
 use Prim.Native.Nat.{ℕ}
 use Rattle.refusal.specs.declared.Kind.{Kind}
-use Rattle.refusal.specs.declared.Kind.the-variants.{TextTooLong, NoLineEnd, WrongByte, VersionExpected, BlockUnfinished, UnknownColumn, ColumnTwice, TooWide, WrongForm, OutOfRange, ElementMissing, GroupIncomplete, CentreNotEarth, TooManyRows, OutputTooShort, NoObservation, NoElement, FieldCountDiffers}
+use Rattle.refusal.specs.declared.Kind.the-variants.{TextTooLong, NoLineEnd, WrongByte, VersionExpected, BlockUnfinished, UnknownColumn, ColumnTwice, TooWide, WrongForm, OutOfRange, ElementMissing, GroupIncomplete, CentreNotEarth, TooManyRows, OutputTooShort, NoObservation, NoElement, FieldCountDiffers, ListTooShort, BadRecord}
 
--- The refusal's number in document 01.
+-- The refusal's number in document 01, and in document 02 from 19 on.
 abbrev pub numberOf : Kind → ℕ
 numberOf TextTooLong = 1
 numberOf NoLineEnd = 2
@@ -23,3 +23,5 @@ numberOf OutputTooShort = 15
 numberOf NoObservation = 16
 numberOf NoElement = 17
 numberOf FieldCountDiffers = 18
+numberOf ListTooShort = 19
+numberOf BadRecord = 20
