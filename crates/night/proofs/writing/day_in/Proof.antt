@@ -1,0 +1,61 @@
+-- `night::writing::day_in` meets its contract.
+use mir.Facts.{toZ-ofZ}
+use mir.Val.{toZ, ofZ}
+use mir.Syntax.{w64}
+use mathlib.Core.Path.{_≡_}
+use borrow.Author.Needs.{needs}
+use Rattle.night.proofs.writing.day_in.Statement.{statement}
+use Rattle.night.proofs.writing.day_in.Tie as tie
+
+enum-told : tie.Need-enum-told
+enum-told c = search needs
+
+enum-told-2 : tie.Need-enum-told-2
+enum-told-2 c = search needs
+
+enum-told-3 : tie.Need-enum-told-3
+enum-told-3 c = search needs
+
+enum-told-4 : tie.Need-enum-told-4
+enum-told-4 c = search needs
+
+enum-known-value : tie.Need-enum-known-value
+enum-known-value c = search needs
+
+enum-told-5 : tie.Need-enum-told-5
+enum-told-5 c = search needs
+
+returns : tie.Need-returns
+returns c = rw (c .enum-told .given .1)
+
+returns-2 : tie.Need-returns-2
+returns-2 c = rw (c .enum-told2 .given .1)
+
+returns-3 : tie.Need-returns-3
+returns-3 c = rw (c .enum-told3 .given .1)
+
+returns-4 : tie.Need-returns-4
+returns-4 c = rw (c .enum-told4 .given .1)
+
+returns-5 : tie.Need-returns-5
+returns-5 c = let e : toZ w64 (ofZ w64 (c .before .value .given .0 .0)) ≡ c .before .value .given .0 .0 = toZ-ofZ (record { sfits = c .known-told .given .0 .1 }) in rw (e, c .before .value .given .1)
+
+returns-6 : tie.Need-returns-6
+returns-6 c = rw (c .enum-told5 .given .1)
+
+pub day-in-spec : {M : Type 1} → statement M
+day-in-spec =
+    tie.close
+    (tie.spec
+    enum-told
+    enum-told-2
+    enum-told-3
+    enum-told-4
+    enum-known-value
+    enum-told-5
+    returns
+    returns-2
+    returns-3
+    returns-4
+    returns-5
+    returns-6)
