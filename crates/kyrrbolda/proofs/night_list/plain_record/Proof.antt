@@ -1,0 +1,32 @@
+-- `kyrrbolda::night_list::plain_record` meets its contract.
+use mir.Facts.{toZ-ofZ}
+use mir.Val.{toZ, ofZ}
+use mir.Syntax.{w64}
+use mathlib.Core.Path.{_≡_}
+use borrow.Author.Needs.{needs}
+use Rattle.kyrrbolda.proofs.night_list.plain_record.Statement.{statement}
+use Rattle.kyrrbolda.proofs.night_list.plain_record.Tie as tie
+
+enum-known-answer : tie.Need-enum-known-answer
+enum-known-answer c = search needs
+
+enum-known-answer-2 : tie.Need-enum-known-answer-2
+enum-known-answer-2 c = search needs
+
+number-requires : tie.Need-number-requires
+number-requires c κs = search needs
+
+returns : tie.Need-returns
+returns c =
+    let fields = c .before .before .answer .given .0 .0 in
+    let day : toZ w64 (ofZ w64 (fields .day)) ≡ fields .day = toZ-ofZ {w = w64} {z = fields .day} (record { sfits = c .struct-told .given .1 .1 .0 .1 }) in
+    let ra : toZ w64 (ofZ w64 (fields .ra)) ≡ fields .ra = toZ-ofZ {w = w64} {z = fields .ra} (record { sfits = c .struct-told .given .1 .1 .1 .1 .0 .1 }) in
+    let dec : toZ w64 (ofZ w64 (fields .dec)) ≡ fields .dec = toZ-ofZ {w = w64} {z = fields .dec} (record { sfits = c .struct-told .given .1 .1 .1 .1 .1 .0 .1 }) in
+    rw (day, ra, dec, c .before .before .answer .given .1)
+
+returns-2 : tie.Need-returns-2
+returns-2 c = rw (c .number .ensures, c .before .before .answer2 .given .1)
+
+pub plain-record-spec : {M : Type 1} → statement M
+plain-record-spec =
+    tie.close (tie.spec enum-known-answer enum-known-answer-2 number-requires returns returns-2)
