@@ -13,27 +13,42 @@ COLUMNS = b"trkSub|mode|stn|obsTime|ra|dec|astCat\n"
 ROW = b"a1|CCD|W84|2024-03-01T04:05:06.5Z|10.5|-0.25|Gaia2\n"
 SPECIMEN = VERSION + COLUMNS + ROW
 
-# A case is a letter, two numbers and a report.
+# A case is a letter, two numbers and two texts, of which the second is empty but where a record is written.
 
 
 def to_check(report):
     """A case that checks the report."""
-    return ("C", 0, 0, report)
+    return ("C", 0, 0, report, b"")
 
 
 def to_show(report, observation, element):
     """A case that asks where a value lies."""
-    return ("S", observation, element, report)
+    return ("S", observation, element, report, b"")
 
 
 def to_value(report, observation, element):
     """A case that asks what a value is worth."""
-    return ("V", observation, element, report)
+    return ("V", observation, element, report, b"")
 
 
 def to_pack(report, room, filling):
     """A case that packs into so much room, filled with a byte before."""
-    return ("P", room, filling, report)
+    return ("P", room, filling, report, b"")
+
+
+def to_write(report, observation, lent):
+    """A case that writes the observation's record into the lent list."""
+    return ("N", observation, 0, report, lent)
+
+
+def to_check_list(lent):
+    """A case that checks a night list."""
+    return ("L", 0, 0, lent, b"")
+
+
+def to_read(lent, number):
+    """A case that reads a record of a night list."""
+    return ("R", number, 0, lent, b"")
 
 
 # ---- rows and blocks

@@ -3,8 +3,9 @@
 import datetime
 
 import ades
+import night
 import values
-from reports import PLACED, SPECIMEN, block, random_layout, random_rows, random_shape, row
+from reports import PLACED, SPECIMEN, block, random_layout, random_rows, random_shape, row, small_row
 
 
 def fault(element, text):
@@ -81,6 +82,66 @@ def packs_well(rows, chance, layouts=3):
         assert ades.read(layout)[1] == rows and len(layout) >= len(packed)
 
 
+# ---- the night list
+
+def specimens_record():
+    """The specimen's record, byte by byte: W84, day 60,370, microsecond 14,706,500,000, ra 10.5, dec -0.25."""
+    record = bytes.fromhex("00 000000 57383420 d2eb0000 a061936c03000000 0049d97102000000 804d19f1ffffffff 00000000")
+    assert night.write(SPECIMEN, 1, bytes(40)) == (("written",), record)
+    assert night.read(record, 1) == ("record", 1, 0x20343857, 60_370, 14_706_500_000, 10_500_000_000, -250_000_000)
+
+
+def read_back(rows, report, chance):
+    """Written in any order into a list of any bytes, the records read back as what the elements are worth."""
+    lent = chance.randbytes(night.RECORD_LENGTH * len(rows))
+    for number in chance.sample(range(1, len(rows) + 1), len(rows)):
+        answer, lent = night.write(report, number, lent)
+        assert answer == ("written",)
+    assert night.check(lent) == ("records", len(rows))
+    for number, each in enumerate(rows, start=1):
+        station = int.from_bytes((each[8] + b" ")[:4], "little")
+        worths = [part for element in (15, 17, 18) for part in ades.value(report, number, element)[1:]]
+        assert night.read(lent, number) == ("record", number, station, *worths)
+
+
+def who_could_write(record):
+    """The row that could have written the record, with all places of its numbers, or None where the day has
+    no date. If another one writes it, this one does: it has the same stn, and the rest is worth the same."""
+    _, _, day, microseconds, ra, dec = night.fields(record)
+    ordinal = day + datetime.date(1858, 11, 17).toordinal()
+    if not 1 <= ordinal <= datetime.date.max.toordinal():
+        return None
+    seconds, microsecond = divmod(microseconds, 1_000_000)
+    clock = b"T%02d:%02d:%02d.%06dZ" % (seconds // 3600, seconds // 60 % 60, seconds % 60, microsecond)
+    return row(stn=record[4:8], obsTime=datetime.date.fromordinal(ordinal).isoformat().encode() + clock,
+               ra=b"%d.%09d" % divmod(ra, values.DEGREE),
+               dec=(b"-" if dec < 0 else b"") + b"%d.%09d" % divmod(abs(dec), values.DEGREE))
+
+
+def judged_rightly(record, number):
+    """A whole record is bad exactly where that row, at that place of a report, does not write it."""
+    writer = who_could_write(record)
+    report = block([small_row()] * (number - 1) + [writer]) if writer else b""
+    answer, after = night.write(report, number, bytes(night.RECORD_LENGTH * number))
+    could = answer == ("written",) and after.endswith(record)
+    assert night.is_bad(record, number) != could, (record, number)
+
+
+def check_night_list(chance):
+    """The specimen's record; reports by chance read back; records by chance, right and damaged, judged."""
+    specimens_record()
+    for _ in range(60):
+        rows = random_rows(chance, chance.randint(1, 8), [random_shape(chance) for _ in range(2)])
+        read_back(rows, random_layout(chance, rows), chance)
+        number = chance.choice((1, 2, 3, 100, 256))
+        record = night.record_of(number, rows[0])
+        judged_rightly(record, number)
+        judged_rightly(record, chance.choice((number + 1, 257)))
+        for _ in range(8):
+            at = chance.randrange(night.RECORD_LENGTH)
+            judged_rightly(record[:at] + bytes([chance.randrange(256)]) + record[at + 1:], number)
+
+
 def check_reference(chance):
     """All of the above, and packing of many small reports by chance."""
     proved_sums()
@@ -89,3 +150,4 @@ def check_reference(chance):
     for _ in range(150):
         shapes = [random_shape(chance) for _ in range(chance.choice((1, 2, 3)))]
         packs_well(random_rows(chance, chance.randint(1, 8), shapes), chance)
+    check_night_list(chance)
