@@ -3,8 +3,8 @@
     python3 bench/compare.py CASES [COUNT]
 
 runs both on the cases of the case file and on COUNT reports with damage made by chance (20,000 if not
-said), and stops at the first difference. It needs an x86-64 machine with gcc, and the static library
-that `rt staticlib kyrrbolda` writes. reference/README.md says how the case file is made.
+said), each with night lists, and stops at the first difference. It needs an x86-64 machine with gcc, and
+the static library that `rt staticlib kyrrbolda` writes. reference/README.md says how the case file is made.
 """
 
 import ctypes
@@ -20,8 +20,12 @@ sys.path.insert(0, str(HERE.parent / "reference"))
 import ades  # noqa: E402
 import cases  # noqa: E402
 import damage  # noqa: E402
+import night  # noqa: E402
+import nights  # noqa: E402
+import reports  # noqa: E402
 
 GUARD = 64
+FENCE = bytes(range(0xC0, 0xC0 + GUARD))  # stands before and after a lent list
 ARCHIVE = HERE.parent / "target" / "staticlib" / "libkyrrbolda.a"
 KINDS = {"no value": 0, "absent": 1, "whole": 2, "decimal": 3, "time": 4, "angle": 5}
 
@@ -35,7 +39,7 @@ class Answer(ctypes.Structure):
 
 
 class Counted(Answer):
-    """The answer of check and pack: the fourth member is the observations or the length."""
+    """The answer of check, pack and a list's check: the fourth member is the observations, length or records."""
     _fields_ = [(name, ctypes.c_uint64) for name in ("refused", "line", "place", "count")]
 
 
@@ -49,8 +53,20 @@ class Valued(Answer):
     _fields_ = Shown._fields_[:3] + [("kind", ctypes.c_uint64), ("whole", ctypes.c_int64), ("part", ctypes.c_uint64)]
 
 
+class Done(Answer):
+    """kyrr_done."""
+    _fields_ = Shown._fields_[:3]
+
+
+class Record(Answer):
+    """kyrr_night_record."""
+    _fields_ = Shown._fields_[:3] + [
+        ("number", ctypes.c_uint64), ("station", ctypes.c_uint64), ("day", ctypes.c_int64),
+        ("microseconds", ctypes.c_uint64), ("ra", ctypes.c_int64), ("dec", ctypes.c_int64)]
+
+
 def function(library, name, answer, *more):
-    """A function of a library that takes a report, its length and more."""
+    """A function of a library that takes a report or a list, its length and more."""
     found = getattr(library, name)
     found.argtypes = [ctypes.c_char_p, ctypes.c_size_t, *more]
     found.restype = answer
@@ -73,8 +89,16 @@ class Functions:
         box = shared(directory, "box.so", str(ARCHIVE))
         output = (ctypes.c_void_p, ctypes.c_size_t)
         request = (ctypes.c_uint64, ctypes.c_uint64)
-        self.checks = [function(plain, "plain_check", Counted), function(box, "kyrr_check", Counted)]
-        self.packs = [function(plain, "plain_pack", Counted, *output), function(box, "kyrr_pack", Counted, *output)]
+
+        def both(name, answer, *more):
+            """The function of that name in both."""
+            return [function(plain, "plain_" + name, answer, *more), function(box, "kyrr_" + name, answer, *more)]
+
+        self.checks = both("check", Counted)
+        self.packs = both("pack", Counted, *output)
+        self.night_writes = both("night_write", Done, ctypes.c_uint64, *output)
+        self.night_checks = both("night_check", Counted)
+        self.night_reads = both("night_read", Record, ctypes.c_uint64)
         self.show = function(box, "kyrr_show", Shown, *request)
         self.value = function(box, "kyrr_value", Valued, *request)
 
@@ -115,25 +139,108 @@ def compare_request(functions, report, observation, element):
     assert given == members(answer, KINDS.get(answer[0]), *number), (report, answer, given)
 
 
+# ---- the night list
+
+def compare_night_write(functions, report, observation, lent):
+    """The answers, every byte of the list, and the bytes before and after it; the list after the call."""
+    answer, after = night.write(report, observation, lent)
+    for write in functions.night_writes:
+        memory = ctypes.create_string_buffer(FENCE + lent + FENCE, len(lent) + 2 * GUARD)
+        given = write(report, len(report), observation, ctypes.byref(memory, GUARD), len(lent)).members()
+        assert given == members(answer), (report, observation, len(lent), answer, given)
+        assert memory.raw == FENCE + after + FENCE, (report, observation, lent, memory.raw)
+    return after
+
+
+def compare_night_check(functions, lent):
+    """The answers to a check of a list."""
+    answer = night.check(lent)
+    for check in functions.night_checks:
+        given = check(lent, len(lent)).members()
+        assert given == members(answer, answer[1]), (lent, answer, given)
+
+
+def compare_night_read(functions, lent, record):
+    """The answers to a reading of a record."""
+    answer = night.read(lent, record)
+    fields = (0,) * 6 if ades.is_refused(answer) else answer[1:]
+    for read in functions.night_reads:
+        given = read(lent, len(lent), record).members()
+        assert given == members(answer, *fields), (lent, record, answer, given)
+
+
+def compare_list(functions, chance, lent):
+    """A list checked, and two records of it read."""
+    compare_night_check(functions, lent)
+    for most in (len(lent) // night.RECORD_LENGTH + 1, 258):
+        compare_night_read(functions, lent, chance.randint(0, most))
+
+
+def random_records(chance):
+    """Records with right fields by chance, a few or as many as may be."""
+    count = chance.choice((1, 2, 3, 5, 9)) if chance.random() < 0.98 else chance.randint(254, 257)
+    return b"".join(nights.record(
+        number, station=reports.some(chance, reports.ALPHANUMERICS, 3, 4).ljust(4), day=chance.randint(*night.DAYS),
+        microseconds=chance.randint(*night.MICROSECONDS), ra=chance.randint(*night.RIGHT_ASCENSIONS),
+        dec=chance.randint(*night.DECLINATIONS)) for number in range(1, count + 1))
+
+
+def damaged_list(chance, lent):
+    """The list with a byte or a bit changed, cut off, longer, or with its records in another order."""
+    at, records = chance.randrange(len(lent)), night.records_of(lent)
+    return chance.choice((
+        lent[:at] + chance.randbytes(1) + lent[at + 1:],
+        lent[:at] + bytes([lent[at] ^ 1 << chance.randrange(8)]) + lent[at + 1:],
+        lent[:at],
+        lent + chance.randbytes(chance.randint(1, night.RECORD_LENGTH)),
+        b"".join(chance.sample(records, len(records))),
+    ))
+
+
+def compare_nights(functions, chance, report):
+    """A write at any place into a list of any length; where the report is accepted a whole list written in any
+    order; then that list and one of records by chance, both also damaged."""
+    compare_night_write(functions, report, chance.randrange(14), chance.randbytes(chance.randrange(600)))
+    lists = [random_records(chance)]
+    answer = ades.check(report)
+    if not ades.is_refused(answer) and answer[1]:
+        lent = chance.randbytes(night.RECORD_LENGTH * answer[1])
+        for observation in chance.sample(range(1, answer[1] + 1), answer[1]):
+            lent = compare_night_write(functions, report, observation, lent)
+        lists.append(lent)
+    for lent in lists:
+        compare_list(functions, chance, lent)
+        compare_list(functions, chance, damaged_list(chance, lent))
+
+
+# ---- cases and chance
+
 def stored(text):
     """The cases of a case file."""
     at = 0
     while at < len(text):
-        letter, first, second, length = text[at:at + cases.HEADER_LENGTH].split()
+        letter, first, second, length, more = text[at:at + cases.HEADER_LENGTH].split()
         at += cases.HEADER_LENGTH
-        yield letter, int(first), int(second), text[at:at + int(length)]
-        at += int(length)
+        end = at + int(length)
+        yield letter.decode(), int(first), int(second), text[at:end], text[end:end + int(more)]
+        at = end + int(more)
 
 
 def compare_stored(functions, case_file):
-    """Every case of the case file; their number."""
+    """Every case of the case file, its first text also checked as a report; their number."""
     compared = 0
-    for letter, first, second, report in stored(pathlib.Path(case_file).read_bytes()):
-        compare_check(functions, report)
-        if letter == b"P":
-            compare_pack(functions, report, first, second)
-        elif letter in b"SV":
-            compare_request(functions, report, first, second)
+    for letter, first, second, text, lent in stored(pathlib.Path(case_file).read_bytes()):
+        compare_check(functions, text)
+        if letter == "P":
+            compare_pack(functions, text, first, second)
+        elif letter in "SV":
+            compare_request(functions, text, first, second)
+        elif letter == "N":
+            compare_night_write(functions, text, first, lent)
+        elif letter == "L":
+            compare_night_check(functions, text)
+        elif letter == "R":
+            compare_night_read(functions, text, first)
         compared += 1
     return compared
 
@@ -147,6 +254,7 @@ def compare_chance(functions, count):
         compare_check(functions, report)
         compare_pack(functions, report, chance.choice((0, len(report) // 2, len(report), 4000)), chance.randrange(256))
         compare_request(functions, report, chance.randrange(14), chance.randrange(31))
+        compare_nights(functions, chance, report)
         accepted += not ades.is_refused(ades.check(report))
     return accepted
 

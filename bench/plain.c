@@ -1,13 +1,13 @@
-/* Checking and packing of ADES reports in plain C, written for speed and not proved: the measure for
- * the proved code. The report is read once, eight bytes at a time; where each value lies is kept; the
- * cuts are searched over runs of rows with the same elements. Needs gcc or clang. No memory is
- * allocated; packing uses about 43 kB of stack. */
+/* Checking and packing of ADES reports and the night list in plain C, written for speed and not proved:
+ * the measure for the proved code. The report is read once, eight bytes at a time; where each value lies
+ * is kept; the cuts are searched over runs of rows with the same elements. Needs gcc or clang. No memory
+ * is allocated; packing uses about 43 kB of stack. */
 
 #include "plain.h"
 
 #include <string.h>
 
-enum { TEXT_LIMIT = 65536, ROW_LIMIT = 256, ELEMENTS = 29, VERSION_LENGTH = 14 };
+enum { TEXT_LIMIT = 65536, ROW_LIMIT = 256, ELEMENTS = 29, VERSION_LENGTH = 14, RECORD_LENGTH = 40 };
 
 enum {
     PERM_ID = 1, PROV_ID, ART_SAT, TRK_SUB, OBS_ID, OBS_SUB_ID, MODE, STN, SYS, CTR, POS1, POS2, POS3, PROG,
@@ -60,6 +60,14 @@ static inline uint64_t load(const uint8_t *bytes)
     word = __builtin_bswap64(word);
 #endif
     return word;
+}
+
+static inline void store(uint8_t *bytes, uint64_t word)
+{
+#if defined(__BYTE_ORDER__) && __BYTE_ORDER__ == __ORDER_BIG_ENDIAN__
+    word = __builtin_bswap64(word);
+#endif
+    memcpy(bytes, &word, 8);
 }
 
 /* The first count bytes, fewer than eight, and zeros after them. */
@@ -330,6 +338,8 @@ static unsigned declination(const uint8_t *value, size_t length)
     return degrees > 90 ? 10 : 0;
 }
 
+static inline int is_leap(unsigned year) { return year % 4 == 0 && (year % 100 != 0 || year % 400 == 0); }
+
 /* yyyy-mm-ddThh:mm:ss, optionally a point and 1 to 6 digits, then Z. */
 static unsigned time_of_day(const uint8_t *value, size_t length)
 {
@@ -349,7 +359,7 @@ static unsigned time_of_day(const uint8_t *value, size_t length)
     day = pair(value + 8);
     if (year == 0 || month == 0 || month > 12 || day == 0)
         return 10;
-    leap = month == 2 && year % 4 == 0 && (year % 100 != 0 || year % 400 == 0);
+    leap = month == 2 && is_leap(year);
     if (day > month_days[month] + leap || pair(value + 11) > 23 || pair(value + 14) > 59 || pair(value + 17) > 59)
         return 10;
     return 0;
@@ -391,6 +401,9 @@ typedef struct {
     row rows[ROW_LIMIT];
     uint32_t values[ROW_LIMIT][ELEMENTS + 1];     /* start * 512 + length, where present */
 } kept;
+
+/* The observation of that number alone. */
+typedef struct { uint64_t number; uint32_t values[ELEMENTS + 1]; } single;
 
 typedef struct { uint32_t refused, line, place, observations; } outcome;
 
@@ -541,8 +554,10 @@ static inline unsigned read_row(const uint8_t *report, size_t start, const line 
 
 enum { VERSION_DUE, COLUMNS_DUE, FIRST_ROW_DUE, ROW_DUE };
 
-/* Reads the whole report, and keeps where the values lie unless table is null. */
-static inline __attribute__((always_inline)) outcome read_report(const uint8_t *report, size_t length, kept *table)
+/* Reads the whole report, and keeps where the values lie: all of them unless table is null, those of one
+ * observation unless that is null. */
+static inline __attribute__((always_inline)) outcome read_report(const uint8_t *report, size_t length, kept *table,
+                                                                 single *one)
 {
     outcome result = { 0, 0, 0, 0 };
     column_list columns;
@@ -572,10 +587,11 @@ static inline __attribute__((always_inline)) outcome read_report(const uint8_t *
             result.refused = 18;
         } else {
             uint64_t set;
-            uint32_t contents = 0;
+            uint32_t contents = 0, *values = table ? table->values[result.observations] : NULL;
             int padded;
-            result.refused = read_row(report, start, &found, &columns, &result.place, &set, &padded, &contents,
-                                      table ? table->values[result.observations] : NULL);
+            if (one && one->number == result.observations + UINT64_C(1))
+                values = one->values;
+            result.refused = read_row(report, start, &found, &columns, &result.place, &set, &padded, &contents, values);
             if (table && !result.refused) {
                 row *each = &table->rows[result.observations];
                 each->set = set;
@@ -599,7 +615,7 @@ static inline __attribute__((always_inline)) outcome read_report(const uint8_t *
 
 plain_checked plain_check(const uint8_t *report, size_t length)
 {
-    outcome read = read_report(report, length, NULL);
+    outcome read = read_report(report, length, NULL, NULL);
     plain_checked answer = { read.refused, 0, 0, 0 };
     if (read.refused) {
         answer.line = read.line;
@@ -740,7 +756,7 @@ plain_packed plain_pack(const uint8_t *report, size_t length, uint8_t *output, s
     writer out;
     uint32_t count, total, first_row = 0;
     table.contents = 0;
-    read = read_report(report, length, &table);
+    read = read_report(report, length, &table, NULL);
     if (read.refused) {
         answer.refused = read.refused;
         answer.line = read.line;
@@ -769,5 +785,134 @@ plain_packed plain_pack(const uint8_t *report, size_t length, uint8_t *output, s
         first_row += rows;
     }
     answer.length = total;
+    return answer;
+}
+
+/* ---- the night list */
+
+#define DEGREE INT64_C(1000000000)
+#define SECOND UINT64_C(1000000)
+#define FIRST_DAY (-678575) /* 0001-01-01 */
+#define LAST_DAY 2973483    /* 9999-12-31 */
+
+/* What the digits after a point are multiplied by, for the places that they leave out. */
+static const uint32_t powers[10] = { 1, 10, 100, 1000, 10000, 100000, 1000000, 10000000, 100000000, 1000000000 };
+
+/* A right value of ra or dec in units of 0.000000001 degree. */
+static int64_t angle(const uint8_t *value, size_t length)
+{
+    size_t sign = sign_of(value), before = sign + digits(value + sign, length - sign);
+    int64_t units = number(value + sign, before - sign) * DEGREE;
+    if (before < length)
+        units += (int64_t)number(value + before + 1, length - before - 1) * powers[10 + before - length];
+    return value[0] == '-' ? -units : units;
+}
+
+/* The days from 1858-11-17 to the date of a right obsTime. */
+static int32_t day_number(const uint8_t *value)
+{
+    static const uint16_t days_before[13] = { 0, 0, 31, 59, 90, 120, 151, 181, 212, 243, 273, 304, 334 };
+    unsigned year = 100 * pair(value) + pair(value + 2), month = pair(value + 5), past = year - 1;
+    unsigned leaps = past / 4 - past / 100 + past / 400 + (month > 2 && is_leap(year));
+    return (int32_t)(365 * past + leaps + days_before[month] + pair(value + 8) - 1) + FIRST_DAY;
+}
+
+/* The microseconds of the day of a right obsTime. */
+static uint64_t microseconds(const uint8_t *value, size_t length)
+{
+    unsigned seconds = 3600 * pair(value + 11) + 60 * pair(value + 14) + pair(value + 17);
+    uint64_t part = length > 20 ? (uint64_t)number(value + 20, length - 21) * powers[27 - length] : 0;
+    return seconds * SECOND + part;
+}
+
+/* The four bytes of a right stn as a number, low byte first. */
+static uint32_t station(const uint8_t *value, size_t length)
+{
+    return WORD3(value[0], value[1], value[2]) | (uint32_t)(length == 4 ? value[3] : ' ') << 24;
+}
+
+/* Writes the record of the observation whose number less one is the index. */
+static void write_record(uint8_t *record, const uint8_t *report, uint64_t index, const uint32_t *values)
+{
+    const uint8_t *time = report + (values[OBS_TIME] >> 9);
+    uint64_t dec = (uint64_t)angle(report + (values[DEC] >> 9), values[DEC] & 511);
+    store(record, index | (uint64_t)station(report + (values[STN] >> 9), values[STN] & 511) << 32);
+    store(record + 8, (uint32_t)day_number(time));
+    store(record + 12, microseconds(time, values[OBS_TIME] & 511));
+    store(record + 20, (uint64_t)angle(report + (values[RA] >> 9), values[RA] & 511));
+    store(record + 28, dec);
+    store(record + 32, dec >> 32);
+}
+
+plain_done plain_night_write(const uint8_t *report, size_t length, uint64_t observation, uint8_t *list,
+                             size_t list_length)
+{
+    single asked;
+    outcome read;
+    asked.number = observation;
+    read = read_report(report, length, NULL, &asked);
+    if (read.refused)
+        return (plain_done){ read.refused, read.line, read.place };
+    if (observation == 0 || observation > read.observations)
+        return (plain_done){ 16, 0, 0 };
+    if (list_length / RECORD_LENGTH < observation)
+        return (plain_done){ 19, 0, 0 };
+    write_record(list + RECORD_LENGTH * (observation - 1), report, observation - 1, asked.values);
+    return (plain_done){ 0, 0, 0 };
+}
+
+/* Four alphanumerics as a number: no blank first, and not two last, since a blank stands after three letters alone. */
+static inline int is_station(uint32_t bytes)
+{
+    uint8_t first = (uint8_t)bytes, second = (uint8_t)(bytes >> 8), third = (uint8_t)(bytes >> 16);
+    uint8_t last = (uint8_t)(bytes >> 24);
+    return (bytes & 0x80808080) == 0 && class_of(first) && class_of(second) && class_of(third) && class_of(last)
+        && first != ' ' && (last != ' ' || third != ' ');
+}
+
+/* An observation whose number less one is the index could have written the record. */
+static inline int is_record(const uint8_t *record, uint64_t index)
+{
+    uint64_t head = load(record);
+    return (uint32_t)head == index && is_station((uint32_t)(head >> 32))
+        && (uint32_t)load(record + 8) - (uint32_t)FIRST_DAY <= LAST_DAY - FIRST_DAY
+        && load(record + 12) < 86400 * SECOND && load(record + 20) < 360 * DEGREE
+        && load(record + 28) + 90 * DEGREE <= 180 * DEGREE && load(record + 32) >> 32 == 0;
+}
+
+/* The number of the first bad record, or 0. */
+static uint64_t first_bad(const uint8_t *list, size_t length)
+{
+    uint64_t whole = length / RECORD_LENGTH < ROW_LIMIT ? length / RECORD_LENGTH : ROW_LIMIT;
+    for (uint64_t index = 0; index < whole; index++)
+        if (!is_record(list + RECORD_LENGTH * index, index))
+            return index + 1;
+    return RECORD_LENGTH * whole == length ? 0 : whole + 1;
+}
+
+plain_night_checked plain_night_check(const uint8_t *list, size_t length)
+{
+    uint64_t bad = first_bad(list, length);
+    return bad ? (plain_night_checked){ 20, 0, bad, 0 } : (plain_night_checked){ 0, 0, 0, length / RECORD_LENGTH };
+}
+
+plain_night_record plain_night_read(const uint8_t *list, size_t length, uint64_t record)
+{
+    plain_night_record answer = { 0, 0, first_bad(list, length), 0, 0, 0, 0, 0, 0 };
+    if (answer.place) {
+        answer.refused = 20;
+        return answer;
+    }
+    if (record == 0 || record > length / RECORD_LENGTH) {
+        answer.refused = 16;
+        return answer;
+    }
+    list += RECORD_LENGTH * (record - 1);
+    answer.number = record;
+    answer.station = load(list) >> 32;
+    answer.day = (int32_t)load(list + 8);
+    answer.microseconds = load(list + 12);
+    answer.ra = (int64_t)load(list + 20);
+    answer.dec = (int64_t)load(list + 28);
     return answer;
 }

@@ -1,4 +1,4 @@
-/* A plain C implementation of checking and packing, written for speed and not proved. */
+/* A plain C implementation of checking, packing and the night list, written for speed and not proved. */
 #ifndef PLAIN_H
 #define PLAIN_H
 
@@ -8,10 +8,24 @@
 /* refused is 0 or the refusal number; the other members are 0 where they do not apply. */
 typedef struct { uint64_t refused, line, place, observations; } plain_checked;
 typedef struct { uint64_t refused, line, place, length; } plain_packed;
+typedef struct { uint64_t refused, line, place; } plain_done;
+typedef struct { uint64_t refused, line, place, records; } plain_night_checked;
+typedef struct {
+    uint64_t refused, line, place, number, station;
+    int64_t day;
+    uint64_t microseconds;
+    int64_t ra, dec;
+} plain_night_record;
 
 plain_checked plain_check(const uint8_t *report, size_t length);
 
 /* The output must not overlap the report. */
 plain_packed plain_pack(const uint8_t *report, size_t length, uint8_t *output, size_t output_length);
+
+/* The list must not overlap the report. */
+plain_done plain_night_write(const uint8_t *report, size_t length, uint64_t observation, uint8_t *list,
+                             size_t list_length);
+plain_night_checked plain_night_check(const uint8_t *list, size_t length);
+plain_night_record plain_night_read(const uint8_t *list, size_t length, uint64_t record);
 
 #endif
