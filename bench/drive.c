@@ -1,9 +1,12 @@
 /* Runs the proved box and the plain implementation on one report:
  *
  *     drive REPORT compare            both answers and all output bytes are the same
- *     drive REPORT time               the time of one call, in nanoseconds: check proved, check plain, pack proved, pack plain
- *     drive REPORT CALL               one call only, to count its instructions: check_proved, check_plain, pack_proved or
- *                                     pack_plain, the function of that name; after it comes the function finished
+ *     drive REPORT time               the time of one call of each function in the table `calls`, in nanoseconds
+ *     drive REPORT CALL               one call only, to count its instructions: the function of that name in the table; after it
+ *                                     comes the function finished
+ *
+ * Beside checking and packing the calls write the night list's record of the first and of the last observation, check a list of
+ * 256 records and read its last one.
  *
  * Declares the few functions of the C library that it needs, so that it can be built where only the linker's libraries of
  * x86-64 are. */
@@ -18,13 +21,15 @@ int printf(const char *format, ...);
 int strcmp(const char *one, const char *other);
 int memcmp(const void *one, const void *other, size_t count);
 void *memset(void *bytes, int byte, size_t count);
+void *memcpy(void *to, const void *from, size_t count);
 int clock_gettime(int clock, moment *now);
 
-enum { ROOM = 65536 + 64, MONOTONIC = 1, ROUNDS = 31 };
+enum { ROOM = 65536 + 64, RECORD = 40, RECORDS = 256, LIST = RECORD * RECORDS, MONOTONIC = 1, ROUNDS = 31 };
 #define ROUND_NANOSECONDS 3000000
 
-static uint8_t report[ROOM], proved_output[ROOM], plain_output[ROOM];
+static uint8_t report[ROOM], proved_output[ROOM], plain_output[ROOM], list[LIST + RECORD];
 static size_t length;
+static uint64_t rows;
 
 typedef void call(void);
 #define APART static __attribute__((noinline)) void /* a function that keeps its own name and place */
@@ -34,12 +39,24 @@ APART check_proved(void) { sink = kyrr_check(report, length).observations; }
 APART check_plain(void) { sink = plain_check(report, length).observations; }
 APART pack_proved(void) { sink = kyrr_pack(report, length, proved_output, ROOM).length; }
 APART pack_plain(void) { sink = plain_pack(report, length, plain_output, ROOM).length; }
+APART write_first_proved(void) { sink = kyrr_night_write(report, length, 1, proved_output, LIST).refused; }
+APART write_first_plain(void) { sink = plain_night_write(report, length, 1, plain_output, LIST).refused; }
+APART write_last_proved(void) { sink = kyrr_night_write(report, length, rows, proved_output, LIST).refused; }
+APART write_last_plain(void) { sink = plain_night_write(report, length, rows, plain_output, LIST).refused; }
+APART list_check_proved(void) { sink = kyrr_night_check(list, LIST).records; }
+APART list_check_plain(void) { sink = plain_night_check(list, LIST).records; }
+APART list_read_proved(void) { sink = kyrr_night_read(list, LIST, RECORDS).number; }
+APART list_read_plain(void) { sink = plain_night_read(list, LIST, RECORDS).number; }
 APART finished(void) { sink = 0; }
 
-enum { CALLS = 4 };
+enum { CALLS = 12 };
 static struct { const char *name; call *call; } calls[CALLS] = {
     { "check_proved", check_proved }, { "check_plain", check_plain },
-    { "pack_proved", pack_proved }, { "pack_plain", pack_plain }
+    { "pack_proved", pack_proved }, { "pack_plain", pack_plain },
+    { "write_first_proved", write_first_proved }, { "write_first_plain", write_first_plain },
+    { "write_last_proved", write_last_proved }, { "write_last_plain", write_last_plain },
+    { "list_check_proved", list_check_proved }, { "list_check_plain", list_check_plain },
+    { "list_read_proved", list_read_proved }, { "list_read_plain", list_read_plain }
 };
 
 /* Compares the answers of check on the first bytes of the report. */
@@ -62,22 +79,81 @@ static int same_pack(size_t bytes, size_t room)
     return memcmp(&proved, &plain, sizeof proved) == 0 && memcmp(proved_output, plain_output, ROOM) == 0;
 }
 
-/* The report whole, cut off at 64 places, and with one byte changed at 64 places. */
-static int compare(void)
+/* Compares the answers of a record's writing on the first bytes of the report and every byte of the outputs. */
+static int same_write(size_t bytes, uint64_t observation, size_t room)
+{
+    kyrr_done proved;
+    plain_done plain;
+    memset(proved_output, 0xA5, ROOM);
+    memset(plain_output, 0xA5, ROOM);
+    proved = kyrr_night_write(report, bytes, observation, proved_output, room);
+    plain = plain_night_write(report, bytes, observation, plain_output, room);
+    return memcmp(&proved, &plain, sizeof proved) == 0 && memcmp(proved_output, plain_output, ROOM) == 0;
+}
+
+/* Compares all answers on the first bytes of the report. */
+static int same_report(size_t bytes)
+{
+    return same_check(bytes) && same_pack(bytes, ROOM) && same_write(bytes, 1, LIST) && same_write(bytes, rows, LIST);
+}
+
+/* Compares the answers of a check and a reading of the first bytes of the list. */
+static int same_list(size_t bytes, uint64_t record)
+{
+    kyrr_night_checked proved = kyrr_night_check(list, bytes);
+    plain_night_checked plain = plain_night_check(list, bytes);
+    kyrr_night_record proved_record = kyrr_night_read(list, bytes, record);
+    plain_night_record plain_record = plain_night_read(list, bytes, record);
+    return memcmp(&proved, &plain, sizeof proved) == 0 && memcmp(&proved_record, &plain_record, sizeof proved_record) == 0;
+}
+
+/* The report whole, cut off at 64 places, and with one byte changed at 64 places; lists that are too short. */
+static int compare_reports(void)
 {
     static const uint8_t bytes[8] = { '|', '\n', ' ', '0', '#', 'A', '-', 0x7F };
-    int same = same_check(length) && same_pack(length, ROOM) && same_pack(length, length / 2);
+    int same = same_report(length) && same_pack(length, length / 2) && same_write(length, rows + 1, LIST)
+        && same_write(length, rows, RECORD * rows) && same_write(length, rows, RECORD * rows - 1);
     for (size_t turn = 0; same && turn < 64; turn++) {
         size_t place = turn * length / 64;
         uint8_t kept = report[place];
-        same = same_check(place) && same_pack(place, ROOM);
+        same = same_report(place);
         report[place] = bytes[turn % 8];
-        same = same && same_check(length) && same_pack(length, ROOM);
+        same = same && same_report(length);
         report[place] = kept;
     }
+    return same;
+}
+
+/* The list whole, with a record more, cut off, and with each byte of a record changed, in another record each time. */
+static int compare_lists(void)
+{
+    int same = same_list(LIST, RECORDS) && same_list(LIST, 0) && same_list(LIST + RECORD, 1);
+    for (size_t turn = 0; same && turn < RECORD; turn++) {
+        size_t place = (RECORDS - 1 - turn) * RECORD + turn;
+        same = same_list(place, RECORDS - 1 - turn);
+        list[place] ^= 0x81;
+        same = same && same_list(LIST, 1);
+        list[place] ^= 0x81;
+    }
+    return same;
+}
+
+static int compare(void)
+{
+    int same = compare_reports() && compare_lists();
     if (!same)
         printf("the answers differ\n");
     return !same;
+}
+
+/* Makes a list of 256 records and one more: the first observation's, each with its own number. */
+static void make_list(void)
+{
+    plain_night_write(report, length, 1, list, LIST);
+    for (size_t record = 1; record <= RECORDS; record++) {
+        memcpy(list + RECORD * record, list, RECORD);
+        list[RECORD * record] = (uint8_t)record;
+    }
 }
 
 static int64_t now(void)
@@ -124,10 +200,12 @@ int main(int words, char **word)
 {
     int file = words == 3 ? open(word[1], 0) : -1;
     if (file < 0) {
-        printf("usage: drive REPORT compare|time|check_proved|check_plain|pack_proved|pack_plain\n");
+        printf("usage: drive REPORT compare|time|CALL\n");
         return 2;
     }
     length = (size_t)read(file, report, ROOM);
+    rows = plain_check(report, length).observations;
+    make_list();
     if (strcmp(word[2], "compare") == 0)
         return compare();
     if (strcmp(word[2], "time") == 0)

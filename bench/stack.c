@@ -3,8 +3,8 @@
  *     stack REPORT..
  *
  * calls each function on a painted stack of its own, and prints for each report the most bytes of it that a call changed: on the
- * report whole, cut off at 64 places and with one byte changed at 64 places; show and value of each element; pack also into no
- * output. Counted from the return address that the call pushes down to the lowest byte that changed.
+ * report whole, cut off at 64 places and with one byte changed at 64 places; show and value of each element; pack and the night
+ * list's writing also into no output; the list that a report writes whole, cut off and changed in the same way. Counted from the return address that the call pushes down to the lowest byte that changed.
  *
  * For x86-64, by its calling convention. Declares the few functions of the C library that it needs, as drive.c does. */
 
@@ -16,13 +16,13 @@ int64_t read(int file, void *bytes, size_t count);
 int printf(const char *format, ...);
 void *memset(void *bytes, int byte, size_t count);
 
-enum { ROOM = KYRR_TEXT_LIMIT + 64, STACK = 1 << 18, PLACES = 64 };
+enum { ROOM = KYRR_TEXT_LIMIT + 64, RECORD = 40, LIST = RECORD * KYRR_ROW_LIMIT, STACK = 1 << 18, PLACES = 64 };
 
-static uint8_t report[ROOM], output[ROOM];
+static uint8_t report[ROOM], output[ROOM], list[LIST];
 static size_t length;
 static uint8_t stack[STACK] __attribute__((aligned(16)));
 
-typedef struct { uint64_t first, second, third, fourth, fifth; } arguments;
+typedef struct { uint64_t first, second, third, fourth, fifth, sixth; } arguments;
 
 /* Calls a function with its stack pointer at the end of the painted stack. */
 static void call_there(uintptr_t function, arguments given)
@@ -32,11 +32,12 @@ static void call_there(uintptr_t function, arguments given)
     register uint64_t third __asm__("rdx") = given.third;
     register uint64_t fourth __asm__("rcx") = given.fourth;
     register uint64_t fifth __asm__("r8") = given.fifth;
+    register uint64_t sixth __asm__("r9") = given.sixth;
     __asm__ volatile("movq %%rsp, %%rbx\n\tmovq %[end], %%rsp\n\tcall *%[function]\n\tmovq %%rbx, %%rsp"
-        : "+r"(first), "+r"(second), "+r"(third), "+r"(fourth), "+r"(fifth)
+        : "+r"(first), "+r"(second), "+r"(third), "+r"(fourth), "+r"(fifth), "+r"(sixth)
         : [end] "r"(stack + STACK), [function] "r"(function)
-        : "rax", "rbx", "r9", "r10", "r11", "xmm0", "xmm1", "xmm2", "xmm3", "xmm4", "xmm5", "xmm6", "xmm7", "xmm8", "xmm9", "xmm10",
-          "xmm11", "xmm12", "xmm13", "xmm14", "xmm15", "cc", "memory");
+        : "rax", "rbx", "r10", "r11", "xmm0", "xmm1", "xmm2", "xmm3", "xmm4", "xmm5", "xmm6", "xmm7", "xmm8", "xmm9", "xmm10", "xmm11",
+          "xmm12", "xmm13", "xmm14", "xmm15", "cc", "memory");
 }
 
 /* The bytes of stack that a call changes; painted twice, since it may write a byte of the paint. */
@@ -55,7 +56,7 @@ static size_t changed(uintptr_t function, arguments given)
     return most;
 }
 
-enum { CHECK, SHOW, VALUE, PACK, CALLS };
+enum { CHECK, SHOW, VALUE, PACK, NIGHT_WRITE, NIGHT_CHECK, NIGHT_READ, CALLS };
 static size_t most[CALLS];
 
 static void note(int call, size_t bytes)
@@ -64,17 +65,28 @@ static void note(int call, size_t bytes)
         most[call] = bytes;
 }
 
-/* Each function that takes a report, on the first bytes of the report; an answer of more than two words goes where the first
- * argument says. */
+/* An answer of more than two words goes where the first argument says. */
+static uint64_t answer[9];
+
+/* Each function that takes a report, on the first bytes of the report. */
 static void try_calls(size_t bytes, uint64_t observation, uint64_t element)
 {
-    static uint64_t answer[6];
-    uint64_t there = (uintptr_t)answer, from = (uintptr_t)report;
-    note(CHECK, changed((uintptr_t)kyrr_check, (arguments){ there, from, bytes, 0, 0 }));
-    note(SHOW, changed((uintptr_t)kyrr_show, (arguments){ there, from, bytes, observation, element }));
-    note(VALUE, changed((uintptr_t)kyrr_value, (arguments){ there, from, bytes, observation, element }));
-    note(PACK, changed((uintptr_t)kyrr_pack, (arguments){ there, from, bytes, (uintptr_t)output, ROOM }));
-    note(PACK, changed((uintptr_t)kyrr_pack, (arguments){ there, from, bytes, (uintptr_t)output, 0 }));
+    uint64_t there = (uintptr_t)answer, from = (uintptr_t)report, to = (uintptr_t)output;
+    note(CHECK, changed((uintptr_t)kyrr_check, (arguments){ there, from, bytes, 0, 0, 0 }));
+    note(SHOW, changed((uintptr_t)kyrr_show, (arguments){ there, from, bytes, observation, element, 0 }));
+    note(VALUE, changed((uintptr_t)kyrr_value, (arguments){ there, from, bytes, observation, element, 0 }));
+    note(PACK, changed((uintptr_t)kyrr_pack, (arguments){ there, from, bytes, to, ROOM, 0 }));
+    note(PACK, changed((uintptr_t)kyrr_pack, (arguments){ there, from, bytes, to, 0, 0 }));
+    note(NIGHT_WRITE, changed((uintptr_t)kyrr_night_write, (arguments){ there, from, bytes, observation, to, LIST }));
+    note(NIGHT_WRITE, changed((uintptr_t)kyrr_night_write, (arguments){ there, from, bytes, observation, to, 0 }));
+}
+
+/* Each function that takes a list, on the first bytes of the list. */
+static void try_list_calls(size_t bytes, uint64_t record)
+{
+    uint64_t there = (uintptr_t)answer, from = (uintptr_t)list;
+    note(NIGHT_CHECK, changed((uintptr_t)kyrr_night_check, (arguments){ there, from, bytes, 0, 0, 0 }));
+    note(NIGHT_READ, changed((uintptr_t)kyrr_night_read, (arguments){ there, from, bytes, record, 0, 0 }));
 }
 
 /* The report whole, for each element of its first and last observation; cut off; with one byte changed. */
@@ -96,14 +108,33 @@ static void try_report(void)
     }
 }
 
+/* The list that the report writes whole, for its first and last record and one past; cut off; with one byte changed. */
+static void try_list(void)
+{
+    uint64_t rows = kyrr_check(report, length).observations;
+    size_t bytes = RECORD * rows;
+    for (uint64_t record = 1; record <= rows; record++)
+        kyrr_night_write(report, length, record, list, LIST);
+    try_list_calls(bytes, 1);
+    try_list_calls(bytes, rows);
+    try_list_calls(bytes, rows + 1);
+    for (size_t turn = 0; turn < PLACES; turn++) {
+        size_t place = turn * bytes / PLACES;
+        try_list_calls(place, 1);
+        list[place] ^= 0x81;
+        try_list_calls(bytes, rows);
+        list[place] ^= 0x81;
+    }
+}
+
 /* The names of all elements, and the numbers of all names. */
 static void try_names(void)
 {
     uint64_t name = 0, element = 0;
     for (uint64_t number = 0; number <= KYRR_ELEMENTS + 1; number++) {
         size_t size = kyrr_name(number, output, ROOM);
-        size_t asked = changed((uintptr_t)kyrr_name, (arguments){ number, (uintptr_t)output, ROOM, 0, 0 });
-        size_t found = changed((uintptr_t)kyrr_element, (arguments){ (uintptr_t)output, size, 0, 0, 0 });
+        size_t asked = changed((uintptr_t)kyrr_name, (arguments){ number, (uintptr_t)output, ROOM, 0, 0, 0 });
+        size_t found = changed((uintptr_t)kyrr_element, (arguments){ (uintptr_t)output, size, 0, 0, 0, 0 });
         name = asked > name ? asked : name;
         element = found > element ? found : element;
     }
@@ -112,7 +143,8 @@ static void try_names(void)
 
 int main(int words, char **word)
 {
-    printf("| Report | Stack of kyrr_check | kyrr_show | kyrr_value | kyrr_pack |\n|---|---|---|---|---|\n");
+    printf("| Report | Stack of kyrr_check | kyrr_show | kyrr_value | kyrr_pack | kyrr_night_write | kyrr_night_check | kyrr_night_read |\n"
+        "|---|---|---|---|---|---|---|---|\n");
     for (int which = 1; which < words; which++) {
         int file = open(word[which], 0);
         if (file < 0) {
@@ -124,7 +156,11 @@ int main(int words, char **word)
         for (int call = 0; call < CALLS; call++)
             most[call] = 0;
         try_report();
-        printf("| %s | %zu | %zu | %zu | %zu |\n", word[which], most[CHECK], most[SHOW], most[VALUE], most[PACK]);
+        try_list();
+        printf("| %s |", word[which]);
+        for (int call = 0; call < CALLS; call++)
+            printf(" %zu |", most[call]);
+        printf("\n");
     }
     try_names();
     return 0;
