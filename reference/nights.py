@@ -214,6 +214,7 @@ def ends_of_numbers(chance):
 def bytes_that_are_settled(chance):
     """The number one off, and bytes 1 to 3 and 36 to 39 not zero."""
     for place, index in ((1, 1), (1, 255), (2, 0), (2, 2), (3, 1), (3, 131), (3, 34)):
+        judged_rightly(record(place, index=index), place)
         lent = right_list(place - 1) + record(place, index=index)
         yield checked(lent, place)
         yield read(lent, chance.randint(1, place), place)
@@ -250,6 +251,8 @@ def changed_bytes(chance):
         lent = b"".join(night.record_of(number, each) for number, each in enumerate(rows, start=1))
         at += RECORD_LENGTH * chance.randrange(3)
         lent = lent[:at] + chance.randbytes(1) + lent[at + 1:]
+        for number, each in enumerate(night.records_of(lent), start=1):
+            judged_rightly(each, number)
         yield to_check_list(lent)
         yield to_read(lent, chance.randint(1, 3))
 
