@@ -17,8 +17,9 @@
  *  - `refused` is 0, or the number of the refusal (kyrr_refusal below); `line` and `place` say where it is. Where a call is refused
  *    the other fields are 0 and no lent byte has changed. Where it is not, `line` and `place` are 0. kyrr_name and kyrr_element
  *    refuse nothing: they answer 0 where there is no such element.
- *  - Lines and observations count from 1. `place` is the column's position from 1 for refusals 6 to 10, the element number for 11
- *    to 13, and else 0. `line` is 0 for a fault of the whole text or of the request (1, 15, 16, 17).
+ *  - Lines, observations and records count from 1. `place` is the column's position from 1 for refusals 6 to 10, the element number
+ *    for 11 to 13, the record's number for 20, and else 0. `line` is 0 for a fault of the whole text, of the request or of a list
+ *    (1, 15, 16, 17, 19, 20).
  */
 #ifndef KYRRBOLDA_H
 #define KYRRBOLDA_H
@@ -62,9 +63,11 @@ enum kyrr_refusal {
     KYRR_CENTRE_NOT_EARTH = 13,    /* sys is WGS84 and ctr is not 399 */
     KYRR_TOO_MANY_ROWS = 14,       /* the 257th data line */
     KYRR_OUTPUT_TOO_SHORT = 15,    /* the output is shorter than the packed report */
-    KYRR_NO_OBSERVATION = 16,      /* no observation has that number */
+    KYRR_NO_OBSERVATION = 16,      /* no observation of the report, or no record of the list, has that number */
     KYRR_NO_ELEMENT = 17,          /* no element has that number */
-    KYRR_FIELD_COUNT_DIFFERS = 18  /* a data line has not as many fields as there are columns */
+    KYRR_FIELD_COUNT_DIFFERS = 18, /* a data line has not as many fields as there are columns */
+    KYRR_LIST_TOO_SHORT = 19,      /* the list has no room for the record at its place */
+    KYRR_BAD_RECORD = 20           /* no accepted observation at that place could have written the record */
 };
 
 /* What kind of value an element has. */

@@ -7,7 +7,7 @@ use report::TEXT_LIMIT;
 use words::print;
 
 // How many refusals there are.
-pub const REFUSALS: usize = 18;
+pub const REFUSALS: usize = 20;
 
 // What the table says of a refusal, by column: the rule that is broken, what to do, what line and place are, which definition states the rule.
 const RULE: usize = 0;
@@ -66,8 +66,27 @@ fn print_limit(number: usize) {
             ELEMENTS as u64,
             b".\n",
         ),
+        20 => print_record(),
         _ => {}
     }
+}
+
+// Prints what a record of the night list holds, byte by byte.
+fn print_record() {
+    print::between(
+        b"A record has 40 bytes, numbers low byte first and in two's complement; a list has at most ",
+        ROW_LIMIT as u64,
+        b" records.\n",
+    );
+    print::bytes(
+        b"Bytes 0 to 3: its number less one.\n\
+          Bytes 4 to 7: stn, 3 or 4 alphanumerics without a blank at either end, a blank after 3.\n\
+          Bytes 8 to 11: the day, -678575 to 2973483, which are 0001-01-01 and 9999-12-31.\n\
+          Bytes 12 to 19: the microseconds of the day, 0 to 86399999999.\n\
+          Bytes 20 to 27: ra, 0 to 359999999999, in units of 0.000000001 degree.\n\
+          Bytes 28 to 35: dec, -90000000000 to 90000000000, in the same units.\n\
+          Bytes 36 to 39: zero.\n",
+    );
 }
 
 // Prints an entry of the table of refusals, in the row of a refusal's number: the first row is empty.
@@ -108,7 +127,11 @@ fn print_entry(row: usize, column: usize) {
           There is no element of that number.|`ades element NAME` says the number of an element.|0|0|`showingAnswer`, `valuedAnswer` \
             (crates/report/specs/Answers.antt)\n\
           The line has not as many fields as there are columns.|Give the line a field for each column, empty where the element is absent.|\
-            the data line|0|`dataLine` (crates/report/specs/Report.antt)\n",
+            the data line|0|`dataLine` (crates/report/specs/Report.antt)\n\
+          The list has no room for that record.|Lend 40 bytes for each observation up to that one.|0|0|`writtenAnswer` \
+            (crates/night/specs/List.antt)\n\
+          No accepted observation at that place could have written this record.|Write the list anew from its report.|0|the record's \
+            number, counted from 1|`isRecord` (crates/night/specs/Record.antt)\n",
         row,
         column,
     ));
