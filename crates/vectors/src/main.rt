@@ -1,6 +1,10 @@
 // Runs the stored cases of the file `cases` and prints their answers.
-// A case is a header of 52 bytes and a report. The header is a letter, a blank, two numbers of 20 digits with a blank after each,
-// the report's length in 7 digits, and LF.
+// A case is a header of 60 bytes and two texts. The header is a letter, a blank, two numbers of 20 digits with a blank after each,
+// the lengths of the two texts in 7 digits with a blank between, and LF.
+use night::answer::Listed;
+use night::answer::Record;
+use night::answer::Recorded;
+use night::answer::Written;
 use pack::Packed;
 use report::answer::Showing;
 use text::part::at;
@@ -8,9 +12,14 @@ use text::part::front;
 use text::part::tail;
 use words::number::Number;
 use words::print;
+ghost use Prim.Native.Nat.{_≤_};
+ghost use lib.ListN.{length};
 
 // The bytes of a header.
-const HEADER: usize = 52;
+const HEADER: usize = 60;
+
+// The most bytes that a text has.
+const LONGEST_TEXT: usize = 70000;
 
 // The most bytes that an output is lent with, and some past them.
 const LARGEST_OUTPUT: usize = 70064;
@@ -47,23 +56,31 @@ fn run_next(file: i32) -> bool {
     if got < HEADER {
         return false;
     }
-    let mut space = [0u8; 65537];
-    run_case(file, &header, &mut space);
+    let mut space = [0u8; LONGEST_TEXT];
+    let length = read_text(file, number_at(&header, 44, 7), &mut space);
+    run_case(file, &header, front(&space, length));
     true
 }
 
-// Reads the report of a case into the space and prints the answer.
-fn run_case(file: i32, header: &[u8], space: &mut [u8]) {
-    let length = number_at(header, 44, 7);
-    if length <= space.len() {
-        io::read_full(file, &mut space[..length]);
-        answer(
-            at(header, 0),
-            number_at(header, 2, 20),
-            number_at(header, 23, 20),
-            front(space, length),
-        );
+// Reads a text of so many bytes into the space, and says how many: none where there is no room for them.
+fn read_text(file: i32, count: usize, space: &mut [u8]) -> usize
+    ensures { λ r. ⌜ r ≤ length (now (space .entry)) ⌝ }
+{
+    if space.len() < count {
+        return 0;
     }
+    io::read_full(file, &mut space[..count]);
+    count
+}
+
+// Reads the second text of a case, after its first, and prints the answer.
+fn run_case(file: i32, header: &[u8], text: &[u8]) {
+    let mut space = [0u8; LONGEST_TEXT];
+    let length = read_text(file, number_at(header, 52, 7), &mut space);
+    let letter = at(header, 0);
+    let first = number_at(header, 2, 20);
+    answer(letter, first, number_at(header, 23, 20), text);
+    answer_list(letter, first, text, &mut space[..length]);
 }
 
 // The number that stands at a place of the header in so many digits.
@@ -75,7 +92,7 @@ fn number_at(header: &[u8], from: usize, digits: usize) -> usize {
     }
 }
 
-// Prints the answer of a case: C check, S show, V value, P pack.
+// Prints the answer of a case about a report: C check, S show, V value, P pack.
 fn answer(letter: u8, first: usize, second: usize, report: &[u8]) {
     if letter == b'C' {
         print::check_line(report::check(report));
@@ -90,6 +107,57 @@ fn answer(letter: u8, first: usize, second: usize, report: &[u8]) {
         let mut output = [0u8; LARGEST_OUTPUT];
         pack_case(report, first, (second % 256) as u8, &mut output);
     }
+}
+
+// Prints the answer of a case about a night list: L check, R read of a list, N write of a report into the lent list.
+fn answer_list(letter: u8, number: usize, text: &[u8], lent: &mut [u8]) {
+    if letter == b'L' {
+        check(text);
+    }
+    if letter == b'R' {
+        read(text, number);
+    }
+    if letter == b'N' {
+        write(text, number, lent);
+    }
+}
+
+// Prints `written` or the refusal, and in the next line the list as it is then, in hexadecimal.
+fn write(report: &[u8], observation: usize, list: &mut [u8]) {
+    match night::write(report, observation, list) {
+        Written::Done => print::bytes(b"written\n"),
+        Written::Refused(refusal) => print::refusal_line(refusal),
+    }
+    print::hexadecimal(list);
+    print::line_end();
+}
+
+// Prints `records N`, or the refusal.
+fn check(list: &[u8]) {
+    match night::check(list) {
+        Listed::Records(count) => print::records_line(count),
+        Listed::Refused(refusal) => print::refusal_line(refusal),
+    }
+}
+
+// Prints `record NUMBER STATION DAY MICROSECONDS RA DEC`, or the refusal.
+fn read(list: &[u8], number: usize) {
+    match night::read(list, number) {
+        Recorded::Is(record) => print_record(record),
+        Recorded::Refused(refusal) => print::refusal_line(refusal),
+    }
+}
+
+// Prints the fields of a record.
+fn print_record(record: Record) {
+    print::between(b"record ", record.number, b"");
+    print::between(b" ", record.station, b" ");
+    print::signed(record.day);
+    print::between(b" ", record.microseconds, b" ");
+    print::signed(record.ra);
+    print::bytes(b" ");
+    print::signed(record.dec);
+    print::line_end();
 }
 
 // Prints `shown START LENGTH VALUE`, `absent`, or the refusal.

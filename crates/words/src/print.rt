@@ -4,6 +4,11 @@ use libc::STDOUT_FILENO;
 use refusal::Refusal;
 use report::answer::Checked;
 use report::answer::Valued;
+use text::part::at;
+use text::part::front;
+
+// How many bytes are printed in hexadecimal by one call of the system.
+const STEP: usize = 512;
 
 // Prints a text as it is.
 pub fn bytes(text: &[u8]) {
@@ -22,12 +27,68 @@ pub fn between(before: &[u8], n: u64, after: &[u8]) {
     bytes(after);
 }
 
+// Prints a number with zeros before it where it has fewer digits than that.
+pub fn padded(n: u64, digits: usize) {
+    let mut space = [0u8; 20];
+    let count = io::decimal(n, &mut space);
+    zeros(count, digits);
+    bytes(&space[..count]);
+}
+
+// Prints as many zeros as so many digits lack of so many others.
+fn zeros(count: usize, digits: usize) {
+    if count < digits {
+        bytes(front(b"00000000000000000000", digits - count));
+    }
+}
+
 // Prints a number with its sign.
 pub fn signed(n: i64) {
     if n < 0 {
         bytes(b"-");
     }
     number(magnitude(n));
+}
+
+// Prints a text in hexadecimal: two digits a byte, the high one first.
+pub fn hexadecimal(text: &[u8]) {
+    let mut i: usize = 0;
+    while STEP <= text.len() - i {
+        let then = i + STEP;
+        hexadecimal_step(&text[i..then]);
+        i = then;
+    }
+    hexadecimal_step(&text[i..]);
+}
+
+// Prints a text in hexadecimal, as many bytes of it as a step has.
+fn hexadecimal_step(text: &[u8]) {
+    let mut space = [0u8; 2 * STEP];
+    let count = spell(text, &mut space);
+    bytes(front(&space, count));
+}
+
+// Puts the digits of a text in hexadecimal into the space, as many as there is room for, and says how many.
+fn spell(text: &[u8], space: &mut [u8]) -> usize {
+    let mut i: usize = 0;
+    while i < space.len() {
+        if text.len() <= i / 2 {
+            return i;
+        }
+        space[i] = digit(text, i);
+        i += 1;
+    }
+    i
+}
+
+// The digit at an index of a text in hexadecimal.
+fn digit(text: &[u8], index: usize) -> u8 {
+    let byte = at(text, index / 2) as usize;
+    if index % 2 == 0 {
+        at(b"0123456789abcdef", byte / 16)
+    } else {
+        at(b"0123456789abcdef", byte % 16)
+    }
 }
 
 // Ends a line.
@@ -51,6 +112,11 @@ pub fn check_line(answer: Checked) {
 // Prints `accepted N`.
 pub fn accepted_line(observations: usize) {
     between(b"accepted ", observations as u64, b"\n");
+}
+
+// Prints `records N`.
+pub fn records_line(records: usize) {
+    between(b"records ", records as u64, b"\n");
 }
 
 // Prints `refused K line L place P`.
