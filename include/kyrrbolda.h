@@ -1,14 +1,16 @@
 /* kyrrbolda.h: the proved reporting box, as C and C++ see it.
  *
  * The library checks a report of ADES observations (pipe-separated text, edition 2022), shows and values each element, packs a
- * report into the shortest one that holds the same observations, and names the elements. docs/PROMISES.md says what is proved of
- * each function.
+ * report into the shortest one that holds the same observations, writes and reads night lists, and names the elements.
+ * docs/PROMISES.md says what is proved of each function.
  *
  * Link target/staticlib/libkyrrbolda.a, which `rt staticlib kyrrbolda` writes for x86-64.
  *
  * For every call:
- *  - Any bytes of any length may be handed in. A pointer is never null: an empty report or output is a valid pointer with length 0.
- *  - A report or a name is only read. Report and output must not overlap.
+ *  - Any bytes of any length may be handed in. A pointer is never null: an empty report, list or output is a valid pointer with
+ *    length 0.
+ *  - A report or a name is only read, and so is a list that is checked or read. What is written to, an output or the list of
+ *    kyrr_night_write, must not overlap the report.
  *  - No memory is kept, allocated or freed; calls from several threads at once do not disturb one another.
  *  - Stack, the return address included: 2,048 bytes are enough for kyrr_check, kyrr_show and kyrr_value, 61,440 for kyrr_pack, of
  *    one row as of 256, and 512 for kyrr_name and kyrr_element. Measured and not proved, with the library as `rt staticlib` builds
@@ -45,6 +47,12 @@ extern "C" {
 
 /* The bytes of the longest name of an element. */
 #define KYRR_NAME_LIMIT 8
+
+/* The bytes of a record of a night list. A list is records one after another, that of observation 1 first; it has no header and at
+ * most KYRR_ROW_LIMIT records. In a record byte 0 is the observation's number less one; 1 to 3 are zero; 4 to 7 stn, a blank after
+ * a three-letter one; 8 to 11 the day, 0 on 1858-11-17; 12 to 19 the microseconds of the day; 20 to 27 ra and 28 to 35 dec, in
+ * units of 0.000000001 degree; 36 to 39 zero. Numbers stand low byte first, in two's complement. */
+#define KYRR_RECORD_SIZE 40
 
 /* Why a call is refused: always the first fault, in the order of the rules. */
 enum kyrr_refusal {
@@ -88,6 +96,13 @@ typedef struct { uint64_t refused, line, place, kind; int64_t whole; uint64_t pa
 
 typedef struct { uint64_t refused, line, place, length; } kyrr_packed;
 
+typedef struct { uint64_t refused, line, place; } kyrr_done;
+
+typedef struct { uint64_t refused, line, place, records; } kyrr_night_checked;
+
+/* The fields of a record: `number` is the observation's number, from 1; `station` bytes 4 to 7 as a number, low byte first. */
+typedef struct { uint64_t refused, line, place, number, station; int64_t day; uint64_t microseconds; int64_t ra, dec; } kyrr_night_record;
+
 /* Checks a report: how many observations it holds, or the first fault. Refusals 1 to 14 and 18. */
 kyrr_checked kyrr_check(const uint8_t *report, size_t report_length);
 
@@ -102,6 +117,18 @@ kyrr_valued kyrr_value(const uint8_t *report, size_t report_length, uint64_t obs
  * The packed report reads as the same observations in the same order, and no report that does is shorter. Refusals of kyrr_check;
  * then 15, exactly where the output is shorter than the packed report. The empty report packs to nothing: length 0. */
 kyrr_packed kyrr_pack(const uint8_t *report, size_t report_length, uint8_t *output, size_t output_length);
+
+/* Writes the record of an observation over the 40 bytes at its place in the list; every other byte of the list stays as it was.
+ * Refusals of kyrr_check; then 16; then 19, exactly where the list is shorter than 40 bytes for each observation up to that one. */
+kyrr_done kyrr_night_write(const uint8_t *report, size_t report_length, uint64_t observation, uint8_t *list, size_t list_length);
+
+/* Checks a list: how many records it has, or 20 at the first bad one. A record is bad exactly where no accepted observation at its
+ * place could have written it; so are a short last record and a 257th. The empty list has no records and no bad one. */
+kyrr_night_checked kyrr_night_check(const uint8_t *list, size_t list_length);
+
+/* The fields of a record of a list. Refusals of kyrr_night_check, whichever record is asked for; then 16, where the list has no
+ * record of that number. */
+kyrr_night_record kyrr_night_read(const uint8_t *list, size_t list_length, uint64_t record);
 
 /* The length of the name of an element, 0 where no element has that number. Writes the name over the start of the output, with no
  * byte 0 after it, where there is room for all of it; the bytes of the output after it stay as they were. Where the output is
