@@ -6,7 +6,7 @@ use words::number::Number;
 use words::print;
 
 // For each command its name, the fewest and the most words that follow it, what they are, and what it answers.
-const COMMANDS: [u8; 793] =
+const COMMANDS: [u8; 938] =
     *b"check|1|65536|FILE..|how many observations a report has, or its first fault\n\
     show|3|3|FILE OBSERVATION ELEMENT|a value's own bytes\n\
     value|3|3|FILE OBSERVATION ELEMENT|a value as an exact number\n\
@@ -14,6 +14,8 @@ const COMMANDS: [u8; 793] =
     faults|1|1|FILE|every fault that can be told, one a line\n\
     pack|2|2|FILE OUT|the shortest report of the same observations\n\
     join|2|65536|OUT FILE..|the same of several reports, one after the other\n\
+    night|2|2|FILE LIST|the night list of a report, a record for each observation\n\
+    records|1|1|LIST|the records of a night list, or its first bad one\n\
     audit|1|65536|REPORT [FILE..]|the auditor's sheet, and whether the files hold the report's observations\n\
     element|1|1|ELEMENT|an element's rule\n\
     refusal|1|1|NUMBER|a refusal's rule\n\
@@ -46,6 +48,8 @@ pub(crate) enum Command {
     Faults,
     Pack,
     Join,
+    Night,
+    Records,
     Audit,
     Element,
     Refusal,
@@ -70,12 +74,14 @@ pub(crate) fn command_at(row: usize) -> Command {
         4 => Command::Faults,
         5 => Command::Pack,
         6 => Command::Join,
-        7 => Command::Audit,
-        8 => Command::Element,
-        9 => Command::Refusal,
-        10 => Command::Run,
-        11 | 13 => Command::Help,
-        12 | 14 => Command::Version,
+        7 => Command::Night,
+        8 => Command::Records,
+        9 => Command::Audit,
+        10 => Command::Element,
+        11 => Command::Refusal,
+        12 => Command::Run,
+        13 | 15 => Command::Help,
+        14 | 16 => Command::Version,
         _ => Command::Unknown,
     }
 }

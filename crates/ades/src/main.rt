@@ -1,4 +1,4 @@
-// ades: reports of observations checked, shown, valued, listed, packed, joined and audited.
+// ades: reports of observations checked, shown, valued, listed, packed, joined and audited; night lists written and read.
 mod asking;
 mod auditing;
 mod checking;
@@ -9,6 +9,7 @@ mod file;
 mod help;
 mod joining;
 mod packing;
+mod recording;
 mod request;
 mod script;
 mod showing;

@@ -12,6 +12,7 @@ use crate::file::SPACE;
 use crate::help;
 use crate::joining;
 use crate::packing;
+use crate::recording;
 use crate::showing;
 use crate::status;
 use crate::status::DONE;
@@ -124,7 +125,8 @@ fn tell(kind: Command) -> usize {
     DONE
 }
 
-// Obeys a command about one report, the one that its first argument names.
+// Obeys a command about one report or list, the one that its first argument names. The space is longer than any list, so that what does not
+// fit changes no answer.
 fn obey_about(kind: Command, command: &[u8]) -> usize {
     let mut space = [0u8; SPACE];
     match file::read(word(command, 1), &mut space) {
@@ -133,14 +135,16 @@ fn obey_about(kind: Command, command: &[u8]) -> usize {
     }
 }
 
-// Answers a command about a report.
-fn answer(kind: Command, command: &[u8], report: &[u8]) -> usize {
+// Answers a command about a report, or a list for `records`.
+fn answer(kind: Command, command: &[u8], text: &[u8]) -> usize {
     match kind {
-        Command::Show => showing::obey(command, report),
-        Command::Value => valuing::obey(command, report),
-        Command::List => checking::list(report),
-        Command::Faults => checking::list_faults(report),
-        Command::Pack => packing::pack_into(word(command, 2), report),
+        Command::Show => showing::obey(command, text),
+        Command::Value => valuing::obey(command, text),
+        Command::List => checking::list(text),
+        Command::Faults => checking::list_faults(text),
+        Command::Pack => packing::pack_into(word(command, 2), text),
+        Command::Night => recording::write_into(word(command, 2), text),
+        Command::Records => recording::tell(text),
         _ => FAILED,
     }
 }

@@ -1,5 +1,6 @@
-// The answers of `show`, `value`, `list` and `pack`, as a person is told them.
+// The answers of `show`, `value`, `list`, `pack`, `night` and `records`, as a person is told them.
 pub mod list;
 pub mod packed;
+pub mod records;
 pub mod shown;
 pub mod valued;

@@ -122,8 +122,9 @@ fn print_entry(row: usize, column: usize) {
             (crates/report/specs/Report.antt)\n\
           The output is shorter than the packed report.|Lend a longer one: as long as the report is always enough.|0|0|`packedAnswer` \
             (crates/pack/specs/Promise.antt)\n\
-          The report has no observation of that number.|`ades check` says how many it has; they are numbered from 1.|0|0|`showingAnswer`, \
-            `valuedAnswer` (crates/report/specs/Answers.antt)\n\
+          The report has no observation, or the list no record, of that number.|`ades check` says how many observations a report has, \
+            `ades records` how many records a list has; both are numbered from 1.|0|0|`showingAnswer`, `valuedAnswer` \
+            (crates/report/specs/Answers.antt), `writtenAnswer`, `recordAnswer` (crates/night/specs/List.antt)\n\
           There is no element of that number.|`ades element NAME` says the number of an element.|0|0|`showingAnswer`, `valuedAnswer` \
             (crates/report/specs/Answers.antt)\n\
           The line has not as many fields as there are columns.|Give the line a field for each column, empty where the element is absent.|\

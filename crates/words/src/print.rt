@@ -98,7 +98,7 @@ pub fn line_end() {
 
 // Prints the box's name and version.
 pub fn version() {
-    bytes(b"kyrrbolda 1.0");
+    bytes(b"kyrrbolda 1.1");
 }
 
 // Prints `accepted N`, or the refusal.
