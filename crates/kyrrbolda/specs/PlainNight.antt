@@ -2,7 +2,7 @@
 use Prim.Native.Nat.{ℕ}
 use lib.IntN.{pos}
 use Rattle.refusal.specs.Paper.{Answer, refusedBy, absent, given}
-use Rattle.night.specs.List.{Done, done}
+use Rattle.night.specs.List.{Done}
 use Rattle.night.specs.declared.answer.Record.{Record}
 use Rattle.kyrrbolda.specs.declared.night_list.KyrrDone.{KyrrDone}
 use Rattle.kyrrbolda.specs.declared.night_list.KyrrNightChecked.{KyrrNightChecked}

@@ -1,7 +1,7 @@
 -- Laws of what writing answers and leaves.
 use Prim.Native.Nat.{ℕ, _+_, _-_, _*_, _/_, _≤_, _<_}
 use mathlib.Core.Path.{_≡_, refl, sym, ap, _∙_}
-use mathlib.Core.Bool.{Bool, true, false, cond, _&&_, _||_}
+use mathlib.Core.Bool.{true, false, _&&_, _||_}
 use mathlib.Core.List.{List, []}
 use native.Mathlib.Omega.{arith}
 use lib.Dec.{leb, ltb}
@@ -11,9 +11,8 @@ use Rattle.text.proofs.Bools.{bools, both}
 use Rattle.refusal.specs.Paper.{Paper, paper, Answer, refusedBy, given}
 use Rattle.refusal.specs.declared.Kind.the-variants.{NoObservation, ListTooShort}
 use Rattle.refusal.specs.declared.Refusal.{Refusal}
-use Rattle.element.specs.Observation.{Observation}
-use Rattle.element.specs.Form.{valueOf}
-use Rattle.report.specs.Report.{Outcome, accepted, refused, read}
+use Rattle.element.specs.Table.{elements}
+use Rattle.report.specs.Report.{refused, read}
 use Rattle.report.specs.Answers.{request}
 use Rattle.report.specs.Index.{Index, rowsIn, roomIn, AcceptedIs, IndexIs, notedValue}
 use Rattle.report.specs.declared.answer.Checked.{Checked}
@@ -93,7 +92,7 @@ module _ {report : List ℕ} (n : ℕ) {index : Index} {count : ℕ} (x : Accept
 
   module _ (held : 0 < rowsIn (index .sets) (index .starts) (index .lengths)) where
     -- The first row notes the observation's fields.
-    noted : 1 ≤ n → n ≤ count → (e : ℕ) → e < 29 → notedValue report index 0 e ≡ getD (getD (x .rows) (n - 1) []) e []
+    noted : 1 ≤ n → n ≤ count → (e : ℕ) → e < elements → notedValue report index 0 e ≡ getD (getD (x .rows) (n - 1) []) e []
     noted a b e h =
         let z : n - 1 + 0 ≡ n - 1 = omega arith in
         rw z at (noted-value (x .noted 0 (omega arith) (omega arith)) held e h)

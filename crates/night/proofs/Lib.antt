@@ -20,3 +20,4 @@ pub mod WritingLaws
 pub mod AnswerLaws
 pub mod ListLaws
 pub mod TestLaws
+pub mod OneAnswer

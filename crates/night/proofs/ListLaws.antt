@@ -1,18 +1,15 @@
--- Laws of the list's reader: the first bad record, found one by one, and what a right record holds.
-use Prim.Native.Nat.{ℕ, zero, suc, _+_, _-_, _*_, _/_, _^_, _≤_, _<_}
-use mathlib.Core.Path.{_≡_, refl, sym, ap, _∙_}
-use mathlib.Core.Bool.{Bool, true, false, cond}
+-- Laws of the search for the first bad record, one by one.
+use Prim.Native.Nat.{ℕ, suc, _+_, _-_, _^_, _≤_, _<_}
+use mathlib.Core.Path.{_≡_, refl, sym}
+use mathlib.Core.Bool.{true, false}
 use mathlib.Core.List.{List}
 use native.Mathlib.Omega.{arith}
 use native.Mathlib.Numerals.{add-one}
-use lib.Dec.{eqb}
 use lib.ListN.{length}
-use borrow.Author.Tests.{eqb-true, eqb-false}
 use mir.Syntax.{w64}
 use mir.Val.{Fits}
-use Rattle.text.proofs.Bools.{bools}
 use Rattle.night.specs.Record.{isRecord}
-use Rattle.night.specs.List.{recordSize, recordAt, recordCount, badFrom, firstBad}
+use Rattle.night.specs.List.{recordAt, recordCount, badFrom, firstBad}
 
 -- The search stands at a number: the records before it are right.
 pub record Looking (list : List ℕ) (number : ℕ) : Type 0 where
@@ -60,18 +57,3 @@ module _ (list : List ℕ) where
     pub look-bad : isRecord n (recordAt n list) ≡ false → n ≡ firstBad list
     unfolding badFrom
     look-bad e = sym (rw (again, e) at (k .left))
-
--- Where no record is bad, each is right.
-right-from : (count m n : ℕ) (list : List ℕ) → badFrom count m list ≡ 0 → 1 ≤ m → m ≤ n → n < m + count → isRecord n (recordAt n list) ≡ true
-unfolding badFrom
-right-from zero m n list e h a b = absurd (omega arith)
-right-from (suc count) m n list e h a b =
-    bools (isRecord m (recordAt m list))
-    (λ r. bools (eqb m n)
-    (λ q. rw (eqb-true m n q) at r)
-    (λ q. right-from count (suc m) n list (rw r at e) (omega arith) (let z = eqb-false m n q in omega arith) (omega arith)))
-    (λ r. absurd (let z : m ≡ 0 = rw r at e in omega arith))
-
-pub right-all : (list : List ℕ) → firstBad list ≡ 0 → (n : ℕ) → 1 ≤ n → n ≤ recordCount list → isRecord n (recordAt n list) ≡ true
-unfolding firstBad
-right-all list e n a b = right-from (recordCount list) 1 n list e (omega arith) a (omega arith)

@@ -1,25 +1,25 @@
 -- Laws of the test of a record as code makes it, and of the numbers that code reads.
-use Prim.Native.Nat.{ℕ, _+_, _*_, _^_, _≤_, _<_}
+use Prim.Native.Nat.{ℕ, _^_, _≤_, _<_}
 use mathlib.Core.Path.{_≡_, refl, sym, ap, _∙_}
-use mathlib.Core.Bool.{Bool, true, false, cond, _&&_, _||_}
+use mathlib.Core.Bool.{Bool, true, false, _&&_, _||_}
 use mathlib.Core.List.{List}
 use native.Mathlib.Omega.{arith}
-use lib.Dec.{eqb, leb, ltb}
-use lib.ListN.{length, getD, take, drop}
+use lib.Dec.{eqb, ltb}
+use lib.ListN.{getD, take, drop}
 use borrow.Author.Tests.{eq-eqb, ne-eqb, le-leb}
 use lib.Seq.{take-take}
 use Rattle.text.specs.Lines.{blank}
 use Rattle.text.specs.Output.{spelt}
-use Rattle.refusal.specs.Paper.{paper, Answer, refusedBy, given}
+use Rattle.refusal.specs.Paper.{paper, refusedBy, given}
 use Rattle.refusal.specs.declared.Kind.the-variants.{NoObservation}
 use Rattle.report.specs.Answers.{request}
-use Rattle.night.specs.Record.{speltAt, padded, unpadded, fieldsOf, isWithin, isRecord}
+use Rattle.night.specs.Record.{speltAt, unpadded, fieldsOf, isWithin, isRecord}
 use Rattle.night.specs.List.{recordAt, recordCount, firstBad, badRecord, listAnswer, told, recordAnswer}
 use Rattle.night.specs.Inner.{numbersOf, isWhole, isWithinNumbers, recordInAnswer}
 use Rattle.night.proofs.Direct.{spelt-below, station-bytes, direct-is}
-use Rattle.night.proofs.ListExact.{record-long}
+use Rattle.night.proofs.Exact.{writable-record}
+use Rattle.night.proofs.ListExact.{record-long, list-exact}
 use Rattle.night.proofs.AnswerLaws.{inside, outside}
-use Rattle.night.proofs.ListLaws.{right-all}
 
 -- A byte that is blank ends a three-letter station.
 pub three : (four : List ℕ) (b : ℕ) → b ≡ getD four 3 0 → b ≡ blank → take 3 four ≡ unpadded four
@@ -68,7 +68,8 @@ pub in-list : (list : List ℕ) (n : ℕ) {count : ℕ} {bytes : List ℕ} → f
 in-list list n bad e k b =
     let i = inside _ n k in
     let l : n ≤ recordCount list = rw e at (i .1) in
-    rw (le-leb 1 n (i .0), le-leb n (recordCount list) l, told-numbers n (recordAt n list) (right-all list bad n (i .0) l), b) refl
+    let right : isRecord n (recordAt n list) ≡ true = writable-record n (recordAt n list) (list-exact list .all bad n (i .0) (omega arith)) in
+    rw (le-leb 1 n (i .0), le-leb n (recordCount list) l, told-numbers n (recordAt n list) right, b) refl
 
 pub not-in-list : (list : List ℕ) (n : ℕ) {count : ℕ} → count ≡ recordCount list → (ltb n 1 || ltb count n) ≡ true
     → refusedBy (paper (request NoObservation)) ≡ recordInAnswer list n

@@ -1,9 +1,8 @@
 -- `night::record::is_ascension` meets its contract.
 use Rattle.night.specs.Record.{isAscension}
 use Rattle.night.proofs.SignedLaws.{range-out, range-in}
-use lib.Signed.{leZ, ltZ}
+use lib.Signed.{ltZ}
 use lib.IntN.{ℤ, pos}
-use borrow.Author.Needs.{needs}
 use Rattle.night.proofs.record.is_ascension.Statement.{statement}
 use Rattle.night.proofs.record.is_ascension.Tie as tie
 

@@ -2,9 +2,8 @@
 use Rattle.night.proofs.DayLimits.{first-is, last-is}
 use Rattle.night.specs.Record.{isDay}
 use Rattle.night.proofs.SignedLaws.{range-out, range-in}
-use lib.Signed.{leZ, ltZ}
+use lib.Signed.{leZ}
 use lib.IntN.{ℤ, pos, negsuc}
-use borrow.Author.Needs.{needs}
 use Rattle.night.proofs.record.is_day.Statement.{statement}
 use Rattle.night.proofs.record.is_day.Tie as tie
 

@@ -1,9 +1,8 @@
 -- `night::record::is_declination` meets its contract.
 use Rattle.night.specs.Record.{isDeclination}
 use Rattle.night.proofs.SignedLaws.{range-out, range-in}
-use lib.Signed.{leZ, ltZ}
+use lib.Signed.{leZ}
 use lib.IntN.{ℤ, pos}
-use borrow.Author.Needs.{needs}
 use Rattle.night.proofs.record.is_declination.Statement.{statement}
 use Rattle.night.proofs.record.is_declination.Tie as tie
 

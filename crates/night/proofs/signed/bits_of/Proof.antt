@@ -1,7 +1,6 @@
 -- `night::signed::bits_of` meets its contract.
 use Rattle.night.proofs.SignedLaws.{Below, below, Above, above, raised-fits, turned-fits, turned-is, below-bits, above-fits, above-bits}
 use native.Mathlib.Omega.{arith}
-use borrow.Author.Needs.{needs}
 use Rattle.night.proofs.signed.bits_of.Statement.{statement}
 use Rattle.night.proofs.signed.bits_of.Tie as tie
 
