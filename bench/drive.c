@@ -138,6 +138,7 @@ static int compare_lists(void)
     return same;
 }
 
+/* Both answers on the report and on the list; 1 where they differ, which is printed. */
 static int compare(void)
 {
     int same = compare_reports() && compare_lists();
@@ -153,6 +154,7 @@ static void make_list(void)
     for (size_t record = 1; record <= RECORDS; record++) {
         memcpy(list + RECORD * record, list, RECORD);
         list[RECORD * record] = (uint8_t)record;
+        list[RECORD * record + 1] = (uint8_t)(record >> 8);
     }
 }
 

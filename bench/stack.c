@@ -4,7 +4,8 @@
  *
  * calls each function on a painted stack of its own, and prints for each report the most bytes of it that a call changed: on the
  * report whole, cut off at 64 places and with one byte changed at 64 places; show and value of each element; pack and the night
- * list's writing also into no output; the list that a report writes whole, cut off and changed in the same way. Counted from the return address that the call pushes down to the lowest byte that changed.
+ * list's writing also into no output; the list that a report writes whole, cut off and changed in the same way. Counted from the
+ * return address that the call pushes down to the lowest byte that changed.
  *
  * For x86-64, by its calling convention. Declares the few functions of the C library that it needs, as drive.c does. */
 
