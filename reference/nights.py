@@ -300,7 +300,8 @@ def record_numbers(chance):
 
 
 def long_lists(chance):
-    """256 records, with a bad one among the last, with a short one or a whole one after them."""
+    """256 records, with a bad one among the last, with a short one or a whole one after them; the whole one also
+    with its number in two bytes, so that nothing but its place is wrong."""
     rows = random_rows(chance, ROW_LIMIT, [random_shape(chance) for _ in range(3)])
     full = b"".join(night.record_of(number, each) for number, each in enumerate(rows, start=1))
     yield checked(full)
@@ -308,7 +309,7 @@ def long_lists(chance):
     yield read(full, 257)
     yield checked(full[:-1], 256)
     yield checked(full[:-2 * RECORD_LENGTH] + record(255, ra=-1) + record(256, ra=-1), 255)
-    yield checked(full + record(257), 257)
+    yield checked(full + record(257, zeros=b"\x01\x00\x00"), 257)
     yield checked(full + record(257)[:1], 257)
     yield read(full + record(257), 1, 257)
     yield read(full[:-RECORD_LENGTH] + record(256, zeros=b"\x01\x00\x00") + record(257), 257, 256)
