@@ -8,7 +8,7 @@ use words::print;
 pub(crate) fn obey() {
     commands::print_all();
     print::bytes(
-        b"FILE is a file's name, or - for standard input; so is the LIST of records. An observation is a number from 1.\n",
+        b"FILE is a file's name, or - for standard input; so is LIST where it is read. An observation is a number from 1.\n",
     );
     print::bytes(b"An element is a name, as obsTime, or a number from 1 to ");
     print::number(ELEMENTS as u64);

@@ -1,4 +1,6 @@
 // `ades night` and `ades records`: a report's night list written, and the records of a list told.
+use crate::command::word;
+use crate::error;
 use crate::file;
 use crate::status::DONE;
 use crate::status::FAILED;
@@ -9,13 +11,24 @@ use night::answer::Listed;
 use night::answer::Written;
 use report::ROW_LIMIT;
 use report::answer::Checked;
+use text::part::same;
 ghost use Prim.Native.Nat.{_≤_};
 
 // The most bytes of a list.
 const LONGEST_LIST: usize = RECORD_SIZE * ROW_LIMIT;
 
+// Writes the night list of the report that a command names to the list that it names, which may not have the report's name.
+pub(crate) fn obey(command: &[u8], report: &[u8]) -> usize {
+    let name = word(command, 2);
+    if same(word(command, 1), name) & !same(name, b"-") {
+        error::tell(b"the list would replace its report");
+        return FAILED;
+    }
+    write_into(name, report)
+}
+
 // Writes the night list of a report to a file, and tells how long it is; or tells the report's refusal, and writes nothing.
-pub(crate) fn write_into(name: &[u8], report: &[u8]) -> usize {
+fn write_into(name: &[u8], report: &[u8]) -> usize {
     match report::check(report) {
         Checked::Accepted(count) => write_records(name, report, count),
         Checked::Refused(refusal) => {

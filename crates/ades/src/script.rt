@@ -125,8 +125,8 @@ fn tell(kind: Command) -> usize {
     DONE
 }
 
-// Obeys a command about one report or list, the one that its first argument names. The space is longer than any list, so that what does not
-// fit changes no answer.
+// Obeys a command about one report or list, the one that its first argument names. The space is longer than any right list, so that what
+// does not fit changes no answer.
 fn obey_about(kind: Command, command: &[u8]) -> usize {
     let mut space = [0u8; SPACE];
     match file::read(word(command, 1), &mut space) {
@@ -143,7 +143,7 @@ fn answer(kind: Command, command: &[u8], text: &[u8]) -> usize {
         Command::List => checking::list(text),
         Command::Faults => checking::list_faults(text),
         Command::Pack => packing::pack_into(word(command, 2), text),
-        Command::Night => recording::write_into(word(command, 2), text),
+        Command::Night => recording::obey(command, text),
         Command::Records => recording::tell(text),
         _ => FAILED,
     }

@@ -56,7 +56,7 @@ pub fn print_numbered(number: usize) {
     print_entry(number, RULE);
 }
 
-// Prints the limit that a rule speaks of, if it speaks of one.
+// Prints the limit that a rule speaks of, or what a record is, if it speaks of one.
 fn print_limit(number: usize) {
     match number {
         1 => print::between(b"The limit is ", TEXT_LIMIT as u64, b" bytes.\n"),

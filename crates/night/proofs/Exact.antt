@@ -54,6 +54,6 @@ writable-record n bytes w =
     let o : Observation = getD (d .observations) (n - 1) [] in
     rw (sym (d .stands) ∙ w .leaves) at (within-record (fieldsIn n o) (accepted-within (w .report) (d .observations) n (d .reads) (d .first) (d .last)))
 
--- 20 is given exactly when no accepted observation at that place could have written the record.
+-- A record is right exactly when an accepted observation at that place could have written it.
 pub record-exact : (n : ℕ) (bytes : List ℕ) → (isRecord n bytes ≡ true → Writable n bytes) × (Writable n bytes → isRecord n bytes ≡ true)
 record-exact n bytes = (record-writable n bytes, writable-record n bytes)

@@ -68,7 +68,8 @@ fieldsFrom number station time ra dec = record {
   dec = unitsIn dec;
 }
 
--- The fields of an observation of a number: stn, obsTime, ra, dec.
+-- The fields of an observation of a number: stn, obsTime, ra, dec. Values are found by the element's number and valued by its index, which
+-- is one less.
 unfoldable pub fieldsIn : ℕ → Observation → Fields
 fieldsIn number observation =
     fieldsFrom number
@@ -85,8 +86,8 @@ padded station = getD station 0 blank ∷ getD station 1 blank ∷ getD station 
 abbrev pub signedBytes : ℕ → ℤ → List ℕ
 signedBytes count number = lowBytes count (ofZ w64 number)
 
--- The record of fields: bytes 0 to 3 the number less one, 4 to 7 stn, 8 to 11 the day number, 12 to 19 microseconds, 20 to 27 ra,
--- 28 to 35 dec; 36 to 39 zero.
+-- The record of fields: byte 0 the number less one and 1 to 3 zero, which is that number in four bytes, since it is below 256; 4 to 7 stn,
+-- 8 to 11 the day number, 12 to 19 microseconds, 20 to 27 ra, 28 to 35 dec; 36 to 39 zero.
 unfoldable pub recordBytes : Fields → List ℕ
 recordBytes f =
     lowBytes 4 (f .number - 1) ++ (padded (f .station) ++ (signedBytes 4 (f .day) ++ (lowBytes 8 (f .microseconds)

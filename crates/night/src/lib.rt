@@ -22,7 +22,8 @@ ghost use mathlib.Core.Path.{_≡_};
 ghost use Rattle.report.specs.Report.{read as readOf};
 ghost use Rattle.night.specs.List.{writtenPaper, writtenAnswer, listAfter, badRecord, listedPaper, listAnswer, recordedPaper, recordAnswer};
 
-// Writes the record of an observation of a report at its place in the list, or says why nothing is written.
+// Writes the record of an observation of a report at its place in the list, or says why nothing is written. It makes the lists for an index
+// of that one observation, with a row more for the reader's own use.
 pub fn write(report: &[u8], observation: usize, list: &mut [u8]) -> Written
     ensures { λ r. ⌜ (writtenPaper r ≡ writtenAnswer (readOf (now (report .entry))) observation (now (list .entry))) × (now (list .exit) ≡ listAfter (readOf (now (report .entry))) observation (now (list .entry))) ⌝ }
 {

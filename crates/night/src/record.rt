@@ -19,6 +19,21 @@ ghost use Rattle.text.specs.Part.{same};
 ghost use Rattle.night.specs.Record.{speltAt, unpadded, isStation, isDay, isAscension, isDeclination, isRecord};
 ghost use Rattle.night.specs.Inner.{numbersOf, isWithinNumbers, isWhole};
 
+// The days of 0001-01-01 and 9999-12-31.
+const FIRST_DAY: i64 = -678575;
+
+const LAST_DAY: i64 = 2973483;
+
+// The microseconds of a day.
+const DAY: u64 = 86400000000;
+
+// The units of 360 degrees, of -90 and of 90.
+const FULL_CIRCLE: i64 = 360000000000;
+
+const SOUTH_POLE: i64 = -90000000000;
+
+const NORTH_POLE: i64 = 90000000000;
+
 // Whether bytes are a right record at the place of a number.
 pub(crate) fn is_record(number: usize, bytes: &[u8]) -> bool
     ensures { λ r. ⌜ r ≡ isRecord number (now (bytes .entry)) ⌝ }
@@ -77,10 +92,7 @@ fn is_within(fields: Record, station: &[u8]) -> bool
     ensures { λ r. ⌜ r ≡ isWithinNumbers fields (now (station .entry)) ⌝ }
 {
     let numbered = (1 <= fields.number) & (fields.number <= ROW_LIMIT as u64);
-    let timed = numbered
-        & is_station(station)
-        & is_day(fields.day)
-        & (fields.microseconds < 86400000000);
+    let timed = numbered & is_station(station) & is_day(fields.day) & (fields.microseconds < DAY);
     timed & is_ascension(fields.ra) & is_declination(fields.dec)
 }
 
@@ -104,10 +116,10 @@ fn is_trimmed(text: &[u8]) -> bool
 fn is_day(day: i64) -> bool
     ensures { λ r. ⌜ r ≡ isDay day ⌝ }
 {
-    if day < -678575 {
+    if day < FIRST_DAY {
         return false;
     }
-    day <= 2973483
+    day <= LAST_DAY
 }
 
 // Whether a right ascension lies from 0 to below 360 degrees.
@@ -117,15 +129,15 @@ fn is_ascension(units: i64) -> bool
     if units < 0 {
         return false;
     }
-    units < 360000000000
+    units < FULL_CIRCLE
 }
 
 // Whether a declination lies from -90 to 90 degrees.
 fn is_declination(units: i64) -> bool
     ensures { λ r. ⌜ r ≡ isDeclination units ⌝ }
 {
-    if units < -90000000000 {
+    if units < SOUTH_POLE {
         return false;
     }
-    units <= 90000000000
+    units <= NORTH_POLE
 }

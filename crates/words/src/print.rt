@@ -35,7 +35,7 @@ pub fn padded(n: u64, digits: usize) {
     bytes(&space[..count]);
 }
 
-// Prints as many zeros as so many digits lack of so many others.
+// Prints as many zeros as a number of so many digits lacks to have so many as are wanted.
 fn zeros(count: usize, digits: usize) {
     if count < digits {
         bytes(front(b"00000000000000000000", digits - count));
