@@ -35,7 +35,7 @@ pub fn padded(n: u64, digits: usize) {
     bytes(&space[..count]);
 }
 
-// Prints as many zeros as a number of so many digits lacks to have so many as are wanted.
+// Prints the zeros before a number that has `count` digits and is to have `digits`.
 fn zeros(count: usize, digits: usize) {
     if count < digits {
         bytes(front(b"00000000000000000000", digits - count));
