@@ -5,11 +5,15 @@ use mathlib.Core.Bool.{Bool, true, false, _&&_}
 use native.Mathlib.Omega.{arith}
 use lib.Dec.{T}
 use lib.IntN.{ℤ, pos, negsuc, negℤ, natAbs, _+ℤ_, _-ℤ_, +ℤ-idl, +ℤ-one, -ℤ-one, negℤ-negℤ}
-use lib.Signed.{leZ, ltZ, nonNeg}
+use lib.Signed.{leZ, ltZ, mag, nonNeg}
 use borrow.Author.Tests.{ltb-true, ltb-false, lt-leb, le-leb}
 use mir.Syntax.{w64}
 use mir.Val.{ofZ, toZ, Fits, SFits}
 use mir.Facts.{toZ-ofZ, toZ-pos, sfits-lit}
+
+-- A number of 64 bits comes back from its bits.
+pub bits-back : (z : ℤ) → mag z < 2 ^ 63 → toZ w64 (ofZ w64 z) ≡ z
+bits-back z h = toZ-ofZ {w = w64} {z = z} (record { sfits = h })
 
 -- ---- order
 

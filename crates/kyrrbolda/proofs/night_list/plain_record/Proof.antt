@@ -1,8 +1,5 @@
 -- `kyrrbolda::night_list::plain_record` meets its contract.
-use mir.Facts.{toZ-ofZ}
-use mir.Val.{toZ, ofZ}
-use mir.Syntax.{w64}
-use mathlib.Core.Path.{_≡_}
+use Rattle.night.proofs.SignedLaws.{bits-back}
 use borrow.Author.Needs.{needs}
 use Rattle.kyrrbolda.proofs.night_list.plain_record.Statement.{statement}
 use Rattle.kyrrbolda.proofs.night_list.plain_record.Tie as tie
@@ -19,9 +16,9 @@ number-requires c κs = search needs
 returns : tie.Need-returns
 returns c =
     let fields = c .before .before .answer .given .0 .0 in
-    let day : toZ w64 (ofZ w64 (fields .day)) ≡ fields .day = toZ-ofZ {w = w64} {z = fields .day} (record { sfits = c .struct-told .given .1 .1 .0 .1 }) in
-    let ra : toZ w64 (ofZ w64 (fields .ra)) ≡ fields .ra = toZ-ofZ {w = w64} {z = fields .ra} (record { sfits = c .struct-told .given .1 .1 .1 .1 .0 .1 }) in
-    let dec : toZ w64 (ofZ w64 (fields .dec)) ≡ fields .dec = toZ-ofZ {w = w64} {z = fields .dec} (record { sfits = c .struct-told .given .1 .1 .1 .1 .1 .0 .1 }) in
+    let day = bits-back (fields .day) (c .struct-told .given .1 .1 .0 .1) in
+    let ra = bits-back (fields .ra) (c .struct-told .given .1 .1 .1 .1 .0 .1) in
+    let dec = bits-back (fields .dec) (c .struct-told .given .1 .1 .1 .1 .1 .0 .1) in
     rw (day, ra, dec, c .before .before .answer .given .1)
 
 returns-2 : tie.Need-returns-2

@@ -35,10 +35,16 @@ loop-less : tie.Need-loop-less Inv-loop μ-loop
 loop-less c = look-less (c .before .before .before .before .before .before .before .args .list .now) _ (c .before .before .before .before .loop .inv) (rw (← (c .before .before .before .before .before .record-count .ensures)) (c .before .before .before .loop-test .taken))
 
 loop-again : tie.Need-loop-again Inv-loop μ-loop
-loop-again c = look-on _ _ (c .before .before .before .before .loop .inv) (rw (← (c .before .before .before .before .before .record-count .ensures)) (c .before .before .before .loop-test .taken)) (ap (isRecord _) (sym (c .before .before .record-at .ensures)) ∙ (sym (c .before .is-record .ensures) ∙ c .if1 .taken))
+loop-again c =
+    look-on _ _ (c .before .before .before .before .loop .inv)
+    (rw (← (c .before .before .before .before .before .record-count .ensures)) (c .before .before .before .loop-test .taken))
+    (ap (isRecord _) (sym (c .before .before .record-at .ensures)) ∙ (sym (c .before .is-record .ensures) ∙ c .if1 .taken))
 
 returns : tie.Need-returns Inv-loop μ-loop
-returns c = look-bad _ _ (c .before .before .before .before .loop .inv) (rw (← (c .before .before .before .before .before .record-count .ensures)) (c .before .before .before .loop-test .taken)) (ap (isRecord _) (sym (c .before .before .record-at .ensures)) ∙ (sym (c .before .is-record .ensures) ∙ c .if1 .left))
+returns c =
+    look-bad _ _ (c .before .before .before .before .loop .inv)
+    (rw (← (c .before .before .before .before .before .record-count .ensures)) (c .before .before .before .loop-test .taken))
+    (ap (isRecord _) (sym (c .before .before .record-at .ensures)) ∙ (sym (c .before .is-record .ensures) ∙ c .if1 .left))
 
 returns-2 : tie.Need-returns-2 Inv-loop μ-loop
 returns-2 c = look-end _ _ (c .before .loop .inv) (rw (← (c .before .before .record-count .ensures)) (c .loop-test .left))

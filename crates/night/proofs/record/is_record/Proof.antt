@@ -22,7 +22,9 @@ returns : tie.Need-returns
 returns c =
     let fields = c .before .before .before .before .record-of .ensures in
     c .is-within .ensures ∙ rw (fields, c .before .station-of .ensures)
-    (test-within _ (λ k. omega (arith, c .before .before .before .before .before .before .before .shared-slice-known .given k)) _ (sym (c .before .before .before .before .before .before .is-whole .ensures) ∙ c .before .before .before .before .before .if1 .taken) (rw fields at (c .before .before .if2 .taken)))
+    (test-within _ (λ k. omega (arith, c .before .before .before .before .before .before .before .shared-slice-known .given k)) _
+    (sym (c .before .before .before .before .before .before .is-whole .ensures) ∙ c .before .before .before .before .before .if1 .taken)
+    (rw fields at (c .before .before .if2 .taken)))
 
 returns-2 : tie.Need-returns-2
 returns-2 c = test-other _ (λ k. omega (arith, c .before .before .before .before .before .shared-slice-known .given k)) _ (rw (c .before .before .record-of .ensures) at (c .if2 .left))

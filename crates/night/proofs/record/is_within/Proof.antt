@@ -1,8 +1,5 @@
 -- `night::record::is_within` meets its contract.
-use mir.Facts.{toZ-ofZ}
-use mir.Val.{toZ, ofZ}
-use mir.Syntax.{w64}
-use mathlib.Core.Path.{_≡_}
+use Rattle.night.proofs.SignedLaws.{bits-back}
 use borrow.Author.Needs.{needs}
 use Rattle.night.proofs.record.is_within.Statement.{statement}
 use Rattle.night.proofs.record.is_within.Tie as tie
@@ -22,9 +19,9 @@ is-declination-requires c κs = search needs
 returns : tie.Need-returns
 returns c =
     let start = c .before .before .before .before .before .before .before .before .before .before .before in
-    let day : toZ w64 (ofZ w64 (start .args .fields .day)) ≡ start .args .fields .day = toZ-ofZ {w = w64} {z = start .args .fields .day} (record { sfits = c .before .before .before .before .before .before .struct-told .given .1 .1 .0 .1 }) in
-    let ra : toZ w64 (ofZ w64 (start .args .fields .ra)) ≡ start .args .fields .ra = toZ-ofZ {w = w64} {z = start .args .fields .ra} (record { sfits = c .before .before .before .struct-told2 .given .1 .1 .1 .1 .0 .1 }) in
-    let dec : toZ w64 (ofZ w64 (start .args .fields .dec)) ≡ start .args .fields .dec = toZ-ofZ {w = w64} {z = start .args .fields .dec} (record { sfits = c .before .struct-told3 .given .1 .1 .1 .1 .1 .0 .1 }) in
+    let day = bits-back (start .args .fields .day) (c .before .before .before .before .before .before .struct-told .given .1 .1 .0 .1) in
+    let ra = bits-back (start .args .fields .ra) (c .before .before .before .struct-told2 .given .1 .1 .1 .1 .0 .1) in
+    let dec = bits-back (start .args .fields .dec) (c .before .struct-told3 .given .1 .1 .1 .1 .1 .0 .1) in
     rw (c .is-declination .ensures, c .before .before .is-ascension .ensures, c .before .before .before .before .before .is-day .ensures, c .before .before .before .before .before .before .before .is-station .ensures) (rw (day, ra, dec))
 
 pub is-within-spec : {M : Type 1} → statement M

@@ -1,8 +1,5 @@
 -- `night::record::record_of` meets its contract.
-use mir.Facts.{toZ-ofZ}
-use mir.Val.{toZ, ofZ}
-use mir.Syntax.{w64}
-use mathlib.Core.Path.{_≡_}
+use Rattle.night.proofs.SignedLaws.{bits-back}
 use borrow.Author.Needs.{needs}
 use Rattle.night.proofs.record.record_of.Statement.{statement}
 use Rattle.night.proofs.record.record_of.Tie as tie
@@ -39,10 +36,23 @@ of-bits-requires-2 c κs = search needs
 
 returns : tie.Need-returns
 returns c =
-    let dec : toZ w64 (ofZ w64 (c .of-bits2 .result)) ≡ c .of-bits2 .result = toZ-ofZ {w = w64} {z = c .of-bits2 .result} (record { sfits = c .of-bits2 .ok }) in
-    let ra : toZ w64 (ofZ w64 (c .before .before .of-bits .result)) ≡ c .before .before .of-bits .result = toZ-ofZ {w = w64} {z = c .before .before .of-bits .result} (record { sfits = c .before .before .of-bits .ok }) in
-    let day : toZ w64 (ofZ w64 (c .before .before .before .before .before .of-short-bits .result)) ≡ c .before .before .before .before .before .of-short-bits .result = toZ-ofZ {w = w64} {z = c .before .before .before .before .before .of-short-bits .result} (record { sfits = c .before .before .before .before .before .of-short-bits .ok }) in
-    rw (dec, ra, day, c .of-bits2 .ensures, c .before .number-at6 .ensures .0, c .before .before .of-bits .ensures, c .before .before .before .number-at5 .ensures .0, c .before .before .before .before .number-at4 .ensures .0, c .before .before .before .before .before .of-short-bits .ensures, c .before .before .before .before .before .before .number-at3 .ensures .0, c .before .before .before .before .before .before .before .number-at2 .ensures .0, c .before .before .before .before .before .before .before .before .number-at .ensures .0)
+    let dec = bits-back (c .of-bits2 .result) (c .of-bits2 .ok) in
+    let ra = bits-back (c .before .before .of-bits .result) (c .before .before .of-bits .ok) in
+    let day = bits-back (c .before .before .before .before .before .of-short-bits .result) (c .before .before .before .before .before .of-short-bits .ok) in
+    rw (
+      dec,
+      ra,
+      day,
+      c .of-bits2 .ensures,
+      c .before .number-at6 .ensures .0,
+      c .before .before .of-bits .ensures,
+      c .before .before .before .number-at5 .ensures .0,
+      c .before .before .before .before .number-at4 .ensures .0,
+      c .before .before .before .before .before .of-short-bits .ensures,
+      c .before .before .before .before .before .before .number-at3 .ensures .0,
+      c .before .before .before .before .before .before .before .number-at2 .ensures .0,
+      c .before .before .before .before .before .before .before .before .number-at .ensures .0,
+    )
 
 pub record-of-spec : {M : Type 1} → statement M
 record-of-spec =

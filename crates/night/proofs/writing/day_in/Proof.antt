@@ -1,8 +1,5 @@
 -- `night::writing::day_in` meets its contract.
-use mir.Facts.{toZ-ofZ}
-use mir.Val.{toZ, ofZ}
-use mir.Syntax.{w64}
-use mathlib.Core.Path.{_≡_}
+use Rattle.night.proofs.SignedLaws.{bits-back}
 use borrow.Author.Needs.{needs}
 use Rattle.night.proofs.writing.day_in.Statement.{statement}
 use Rattle.night.proofs.writing.day_in.Tie as tie
@@ -38,7 +35,7 @@ returns-4 : tie.Need-returns-4
 returns-4 c = rw (c .enum-told4 .given .1)
 
 returns-5 : tie.Need-returns-5
-returns-5 c = let e : toZ w64 (ofZ w64 (c .before .value .given .0 .0)) ≡ c .before .value .given .0 .0 = toZ-ofZ (record { sfits = c .known-told .given .0 .1 }) in rw (e, c .before .value .given .1)
+returns-5 c = let e = bits-back (c .before .value .given .0 .0) (c .known-told .given .0 .1) in rw (e, c .before .value .given .1)
 
 returns-6 : tie.Need-returns-6
 returns-6 c = rw (c .enum-told5 .given .1)

@@ -1,10 +1,10 @@
 -- `night::writing::put_position` meets its contract.
+use Rattle.night.proofs.SignedLaws.{bits-back}
 use Rattle.night.proofs.WritingLaws.{low-over, next-low, over-long, two-eights}
 use Rattle.night.specs.Record.{unitsIn}
 use Rattle.text.proofs.Outputs.{low-count}
 use Rattle.text.specs.Output.{lowBytes}
-use mir.Facts.{toZ-ofZ}
-use mir.Val.{toZ, ofZ}
+use mir.Val.{ofZ}
 use mir.Syntax.{w64}
 use native.Mathlib.Omega.{arith}
 use mathlib.Core.List.{_++_}
@@ -60,18 +60,20 @@ returns c =
     let start = c .before .before .before .before .before .before .before .before .before .before .before .before .before .before .before .before .before in
     let output = start .args .output .now in
     let ra-in = c .before .before .before .before .before .before .before .before .before .before .before .before .before .before .before .units-in in
-    let ra : toZ w64 (ofZ w64 (ra-in .result)) ≡ ra-in .result = toZ-ofZ {w = w64} {z = ra-in .result} (record { sfits = ra-in .ok }) in
-    let ra-bits : c .before .before .before .before .before .before .before .before .before .before .before .before .before .before .bits-of .result ≡ ofZ w64 (unitsIn (start .args .ra)) = c .before .before .before .before .before .before .before .before .before .before .before .before .before .before .bits-of .ensures ∙ ap (ofZ w64) (ra ∙ ra-in .ensures) in
+    let ra = bits-back (ra-in .result) (ra-in .ok) in
+    let ra-of = c .before .before .before .before .before .before .before .before .before .before .before .before .before .before .bits-of in
+    let ra-bits : ra-of .result ≡ ofZ w64 (unitsIn (start .args .ra)) = ra-of .ensures ∙ ap (ofZ w64) (ra ∙ ra-in .ensures) in
     let dec-in = c .before .before .before .before .before .before .before .before .before .units-in2 in
-    let dec : toZ w64 (ofZ w64 (dec-in .result)) ≡ dec-in .result = toZ-ofZ {w = w64} {z = dec-in .result} (record { sfits = dec-in .ok }) in
-    let dec-bits : c .before .before .before .before .before .before .before .before .bits-of2 .result ≡ ofZ w64 (unitsIn (start .args .dec)) = c .before .before .before .before .before .before .before .before .bits-of2 .ensures ∙ ap (ofZ w64) (dec ∙ dec-in .ensures) in
-    let a = lowBytes 8 (c .before .before .before .before .before .before .before .before .before .before .before .before .before .before .bits-of .result) in
+    let dec = bits-back (dec-in .result) (dec-in .ok) in
+    let dec-of = c .before .before .before .before .before .before .before .before .bits-of2 in
+    let dec-bits : dec-of .result ≡ ofZ w64 (unitsIn (start .args .dec)) = dec-of .ensures ∙ ap (ofZ w64) (dec ∙ dec-in .ensures) in
+    let a = lowBytes 8 (ra-of .result) in
     let first = c .before .before .before .before .before .before .before .before .before .before .before .before .put-low .ensures .1 ∙ low-over 8 _ _ (omega (arith, start .pre)) in
     let long = over-long a output _ 8 first (low-count 8 _) (omega (arith, start .pre)) in
-    let second = next-low a output _ 8 first (low-count 8 _) 8 (c .before .before .before .before .before .before .before .before .bits-of2 .result) (omega (arith, start .pre, long)) (c .before .before .before .before .before .before .put-low2 .ensures .1) in
+    let second = next-low a output _ 8 first (low-count 8 _) 8 (dec-of .result) (omega (arith, start .pre, long)) (c .before .before .before .before .before .before .put-low2 .ensures .1) in
     rw (← ra-bits, ← dec-bits)
-    (next-low (a ++ lowBytes 8 (c .before .before .before .before .before .before .before .before .bits-of2 .result)) output _ 16 second (two-eights _ _) 4 0
-    (omega (arith, start .pre, over-long (a ++ lowBytes 8 (c .before .before .before .before .before .before .before .before .bits-of2 .result)) output _ 16 second (two-eights _ _) (omega (arith, start .pre))))
+    (next-low (a ++ lowBytes 8 (dec-of .result)) output _ 16 second (two-eights _ _) 4 0
+    (omega (arith, start .pre, over-long (a ++ lowBytes 8 (dec-of .result)) output _ 16 second (two-eights _ _) (omega (arith, start .pre))))
     (c .before .before .put-low3 .ensures .1))
 
 pub put-position-spec : {M : Type 1} → statement M

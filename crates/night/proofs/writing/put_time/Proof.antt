@@ -1,10 +1,10 @@
 -- `night::writing::put_time` meets its contract.
+use Rattle.night.proofs.SignedLaws.{bits-back}
 use Rattle.night.proofs.WritingLaws.{low-over, next-low, over-long}
 use Rattle.night.specs.Record.{dayIn}
 use Rattle.text.proofs.Outputs.{low-count}
 use Rattle.text.specs.Output.{lowBytes}
-use mir.Facts.{toZ-ofZ}
-use mir.Val.{toZ, ofZ}
+use mir.Val.{ofZ}
 use mir.Syntax.{w64}
 use native.Mathlib.Omega.{arith}
 use mathlib.Core.Path.{_≡_, ap, _∙_}
@@ -43,7 +43,7 @@ returns : tie.Need-returns
 returns c =
     let start = c .before .before .before .before .before .before .before .before .before .before .before .before in
     let day-in = c .before .before .before .before .before .before .before .before .before .before .day-in in
-    let day : toZ w64 (ofZ w64 (day-in .result)) ≡ day-in .result = toZ-ofZ {w = w64} {z = day-in .result} (record { sfits = day-in .ok }) in
+    let day = bits-back (day-in .result) (day-in .ok) in
     let bits : c .before .before .before .before .before .before .before .before .before .bits-of .result ≡ ofZ w64 (dayIn (start .args .time)) = c .before .before .before .before .before .before .before .before .before .bits-of .ensures ∙ ap (ofZ w64) (day ∙ day-in .ensures) in
     let first = c .before .before .before .before .before .before .before .put-low .ensures .1 ∙ low-over 4 _ _ (omega (arith, start .pre)) in
     rw (← bits, ← (c .before .before .before .before .microseconds-in .ensures))
