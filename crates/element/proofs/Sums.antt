@@ -1,4 +1,4 @@
--- Every sum of the table is right: each computes. Tables that are right make one that is right.
+-- Every sum of each table is right: each computes. Tables that are right make one that is right.
 use mathlib.Core.List.{List, [], _∷_, _++_}
 use mathlib.Core.Path.{refl}
 use Rattle.text.specs.Class.{leading, isOnly}
@@ -6,13 +6,14 @@ use Rattle.text.specs.Digits.{after, number}
 use Rattle.text.specs.Part.{same, starts}
 use Rattle.value.specs.Angle.{isDegrees, isRightAscension, units, rightAscension, declination}
 use Rattle.value.specs.Calendar.{isLeap, yearDays, monthLength, monthDays, isDate, dayNumber}
-use Rattle.value.specs.Decimal.{isPointed, isDecimal, places}
+use Rattle.value.specs.Centre.{centre, isInteger, lessMinus}
+use Rattle.value.specs.Decimal.{isPointed, isDecimal, places, isTooWide, decimalIn, decimal, correlation}
 use Rattle.value.specs.Designation.{isCapitals, isMinorPlanet, isCometEnd, isComet, provID}
 use Rattle.value.specs.Numeral.{isDigits, isCount, part}
 use Rattle.value.specs.Sign.{bare, withSign}
 use Rattle.value.specs.Time.{isFraction, isTimeEnd, isTime, isMoment, dayOf, fraction, microseconds, obsTime}
 use Rattle.element.specs.Form.{valueOf}
-use Rattle.element.specs.Sums.{Sum, IsRight, AreRight, valueSums}
+use Rattle.element.specs.Sums.{Sum, IsRight, AreRight, valueSums, pointValueSums}
 use Rattle.element.specs.Table.{indexIn, indexOf}
 
 -- P4 to P10.
@@ -21,6 +22,13 @@ unfolding IsRight AreRight valueSums valueOf indexOf indexIn same starts leading
     declination isLeap yearDays monthLength monthDays isDate dayNumber isPointed isDecimal places isCapitals isMinorPlanet isCometEnd isComet provID
     isDigits isCount part bare withSign isFraction isTimeEnd isTime isMoment dayOf fraction microseconds obsTime
 value-sums-right = (refl, (refl, (refl, (refl, (refl, (refl, (refl, (refl, (refl, (refl, tt))))))))))
+
+-- Order 2.
+pub point-value-sums-right : AreRight pointValueSums
+unfolding IsRight AreRight pointValueSums valueOf indexOf indexIn same starts leading isOnly after number isDegrees isRightAscension units rightAscension
+    declination isPointed isDecimal places isTooWide decimalIn decimal correlation centre isInteger lessMinus isDigits isFraction isTimeEnd isTime
+    obsTime bare withSign
+point-value-sums-right = (refl, (refl, (refl, (refl, (refl, (refl, (refl, (refl, (refl, (refl, (refl, (refl, (refl, (refl, (refl, (refl, (refl, (refl, (refl, (refl, (refl, tt)))))))))))))))))))))
 
 -- Two tables that are right are right one after the other.
 pub right-append : (xs ys : List Sum) → AreRight xs → AreRight ys → AreRight (xs ++ ys)

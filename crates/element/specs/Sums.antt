@@ -1,10 +1,10 @@
--- The document's sums, as tables of equations. This table has those about values, P4 to P10.
+-- The documents' sums, as tables of equations. These tables have those about values: document 01's P4 to P10, and document 02's order 2.
 use Prim.Native.String.{String}
 use mathlib.Core.Path.{_≡_}
 use mathlib.Core.List.{List, [], _∷_}
 use lib.IntN.{pos, negℤ}
 use Rattle.text.specs.Bytes.{bytes}
-use Rattle.value.specs.Paper.{noValue, time, angle, PaperValue, fault, right, paperValue}
+use Rattle.value.specs.Paper.{noValue, decimal, time, angle, PaperValue, fault, right, paperValue}
 use Rattle.element.specs.Form.{valueOf}
 use Rattle.element.specs.Table.{indexOf}
 
@@ -39,4 +39,30 @@ valueSums =
     (value "dec" "-90" gives right (angle (negℤ (pos 90000000000)))) ∷
     (value "provID" "2016 AZ6" gives right noValue) ∷
     (value "provID" "2016 AI6" gives fault 9) ∷
+    []
+
+-- Order 2: a point before or after the digits, or alone.
+unfoldable pub pointValueSums : List Sum
+pointValueSums =
+    (value "mag" "12." gives right (decimal (pos 12) 0)) ∷
+    (value "mag" ".5" gives right (decimal (pos 5) 1)) ∷
+    (value "mag" "-.5" gives right (decimal (negℤ (pos 5)) 1)) ∷
+    (value "mag" "." gives fault 9) ∷
+    (value "mag" "+" gives fault 9) ∷
+    (value "mag" "-" gives fault 9) ∷
+    (value "mag" "+." gives fault 9) ∷
+    (value "mag" "-." gives fault 9) ∷
+    (value "mag" "123456" gives right (decimal (pos 123456) 0)) ∷
+    (value "mag" "123456." gives fault 8) ∷
+    (value "rmsMag" "0." gives fault 10) ∷
+    (value "rmsMag" ".0" gives fault 10) ∷
+    (value "rmsCorr" "-1." gives right (decimal (negℤ (pos 1)) 0)) ∷
+    (value "ra" ".5" gives right (angle (pos 500000000))) ∷
+    (value "ra" "360." gives fault 10) ∷
+    (value "ra" "00." gives fault 9) ∷
+    (value "ra" "." gives fault 9) ∷
+    (value "dec" "90." gives right (angle (pos 90000000000))) ∷
+    (value "dec" "-.5" gives right (angle (negℤ (pos 500000000)))) ∷
+    (value "ctr" "399." gives fault 9) ∷
+    (value "obsTime" "2024-03-01T04:05:06.Z" gives fault 9) ∷
     []

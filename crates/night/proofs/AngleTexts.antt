@@ -10,6 +10,7 @@ use lib.ListN.{length, getD, drop}
 use borrow.Author.Tests.{le-leb, lt-ltb, ne-eqb, ltb-true, ltb-false}
 use Rattle.text.specs.Class.{isOnly, leading}
 use Rattle.text.specs.Digits.{after, number}
+use Rattle.text.specs.declared.class.Class.the-variants.{Digit}
 use Rattle.text.proofs.Bools.{bools}
 use Rattle.value.specs.Angle.{isDegrees, isRightAscension, units, rightAscension, declination}
 use Rattle.value.specs.Decimal.{isPointed, isDecimal, places}
@@ -46,8 +47,8 @@ module _ (k w f : ℕ) (some : 0 < k) (small : w < 10 ^ k) (least : f < 10000000
   k-long : length (spell k w (nine f)) ≡ k + 10
   k-long = spell-length k w (nine f) ∙ ap (λ (n : ℕ). k + suc n) (spell-length 9 f [])
 
-  nine-are : isDigits (spell 9 f []) ≡ true
-  unfolding isDigits isOnly
+  nine-are : isOnly Digit (spell 9 f []) ≡ true
+  unfolding isOnly
   nine-are = rw (nine-digits, spell-length 9 f [])
 
   after-point : drop k (spell k w (nine f)) ≡ nine f
@@ -59,7 +60,8 @@ module _ (k w f : ℕ) (some : 0 < k) (small : w < 10 ^ k) (least : f < 10000000
 
   k-decimal : isDecimal (spell k w (nine f)) ≡ true
   unfolding isDecimal isDigits isOnly isPointed
-  k-decimal = rw (k-digits, k-long, lt-ltb 0 k some, ne-eqb k (k + 10) (λ e. omega arith), after-point) nine-are
+  k-decimal =
+      rw (k-digits, k-long, lt-ltb 0 k some, ne-eqb k (k + 10) (λ e. omega arith), lt-ltb 1 (k + 10) (omega arith), after-point) nine-are
 
   k-number : number 0 (spell k w (nine f)) ≡ w * 1000000000 + f
   unfolding number after

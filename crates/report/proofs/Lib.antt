@@ -1,4 +1,5 @@
 pub mod AnswerLaws
+pub mod Before
 pub mod ColumnLaws
 pub mod Computed
 pub mod IndexLaws

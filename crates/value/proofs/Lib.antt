@@ -1,6 +1,9 @@
+pub mod BarePoint
+pub mod Before
 pub mod Checks
 pub mod Days
 pub mod Degrees
+pub mod Held
 pub mod Moments
 pub mod Numerals
 pub mod Signs

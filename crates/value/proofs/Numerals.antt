@@ -5,17 +5,17 @@ use mathlib.Core.Bool.{Bool, true, false, cond, _&&_, _||_}
 use mathlib.Core.List.{List, [], _∷_, _++_}
 use native.Mathlib.Nat.{le-trans, lt-of-lt-of-le, mul-assoc, mul-comm, mul-le-mul-right, pow-suc}
 use native.Mathlib.Omega.{arith}
-use lib.Dec.{leb, ltb, eqb}
+use lib.Dec.{leb, ltb}
 use lib.ListN.{length, getD, take, drop}
 use borrow.Author.Tests.{ltb-true, ltb-false, lt-ltb, le-leb, leb-true}
-use Rattle.text.specs.Class.{isDigit, isOnly, leading}
+use Rattle.text.specs.Class.{isDigit, leading}
 use Rattle.text.specs.Digits.{after, number}
 use Rattle.text.proofs.Bools.{bools, both, neither, never}
 use Rattle.text.proofs.Classes.{digit-range}
 use Rattle.text.proofs.Numbers.{number-front, number-small, number-step, number-end}
 use Rattle.text.proofs.Parts.{take-below}
-use Rattle.value.specs.Decimal.{isPointed, isDecimal, places, isTooWide, Any, Positive, isWithin}
-use Rattle.value.specs.Numeral.{digits, isDigits, part}
+use Rattle.value.specs.Decimal.{places, isTooWide, Any, Positive, isWithin}
+use Rattle.value.specs.Numeral.{digits, part}
 
 -- The first 18 bytes of a part of at most 18 bytes are all of it.
 pub part-is : (from count : ℕ) (s : List ℕ) → count ≤ 18 → number 0 (take 18 (take count (drop from s))) ≡ part from count s
@@ -36,16 +36,6 @@ places-le s = omega arith
 pub narrow : (width : ℕ) (s : List ℕ) → isTooWide width s ≡ false → length s ≤ 18
 unfolding isTooWide
 narrow width s e = ltb-false 18 (length s) (neither (ltb width (length s)) (ltb 18 (length s)) e .1)
-
--- A test that two others share is made once.
-shared-test : (a b c : Bool) → a && (b || c) ≡ (a && b) || (a && c)
-shared-test true b c = refl
-shared-test false b c = refl
-
--- A decimal starts with digits, and they are all of it or a point and digits follow.
-pub decimal-once : (s : List ℕ) → ltb 0 (digits s) && (eqb (digits s) (length s) || isPointed (drop (digits s) s)) ≡ isDecimal s
-unfolding isDecimal isDigits isOnly
-decimal-once s = shared-test (ltb 0 (digits s)) (eqb (digits s) (length s)) (isPointed (drop (digits s) s))
 
 -- A signed decimal may have any value, another one those above zero.
 pub within-is : (signed : Bool) (whole count : ℕ) → isWithin (cond signed Any Positive) whole count ≡ signed || ltb 0 whole

@@ -14,7 +14,7 @@ use Rattle.value.specs.Decimal.{isDecimal, places}
 use Rattle.value.specs.declared.Value.{Value}
 use Rattle.value.specs.declared.Value.the-variants.{Bad, Angle}
 
--- An integer part of at most `most` digits, no leading zero except `0` alone, optionally a point and 1 to 9 digits.
+-- A decimal with an integer part of at most `most` digits, no leading zero except `0` alone, and at most 9 places.
 unfoldable pub isDegrees : ℕ → List ℕ → Bool
 isDegrees most text = isDecimal text && leb (digits text) most && leb (places text) 9 && (eqb (digits text) 1 || noLeadingZero text)
 
@@ -33,7 +33,7 @@ rightAscension text =
     (cond (ltb (units text) 360000000000) (Angle (pos (units text))) (Bad OutOfRange))
     (Bad WrongForm)
 
--- dec: optional sign, integer part of one or two digits; -90 to 90 inclusive.
+-- dec: optional sign, integer part of at most two digits; -90 to 90 inclusive.
 unfoldable pub declination : List ℕ → Value
 declination text =
     cond (isDegrees 2 (bare true text))

@@ -5,20 +5,22 @@ use mathlib.Core.Bool.{Bool, true, cond, _&&_, _||_}
 use mathlib.Core.List.{List}
 use lib.Dec.{eqb, leb, ltb}
 use lib.ListN.{length, getD, drop}
+use Rattle.text.specs.Class.{isOnly}
 use Rattle.text.specs.Digits.{number}
+use Rattle.text.specs.declared.class.Class.the-variants.{Digit}
 use Rattle.refusal.specs.declared.Kind.the-variants.{TooWide, WrongForm, OutOfRange}
 use Rattle.value.specs.Numeral.{digits, isDigits}
 use Rattle.value.specs.Sign.{isMinus, bare, withSign}
 use Rattle.value.specs.declared.Value.{Value}
 use Rattle.value.specs.declared.Value.the-variants.{Bad, Decimal}
 
--- A point and at least one digit.
+-- A point and only digits after it, perhaps none.
 unfoldable pub isPointed : List ℕ → Bool
-isPointed text = eqb (getD text 0 0) (code ".") && isDigits (drop 1 text)
+isPointed text = eqb (getD text 0 0) (code ".") && isOnly Digit (drop 1 text)
 
--- A decimal is digits, then optionally a point and digits, at least one digit on each side of a point.
+-- A decimal is digits, optionally with a point before, among or after them; it needs one digit, on either side.
 unfoldable pub isDecimal : List ℕ → Bool
-isDecimal text = isDigits text || (ltb 0 (digits text) && isPointed (drop (digits text) text))
+isDecimal text = isDigits text || (ltb 1 (length text) && isPointed (drop (digits text) text))
 
 -- How many digits stand after the point of a decimal without sign.
 unfoldable pub places : List ℕ → ℕ

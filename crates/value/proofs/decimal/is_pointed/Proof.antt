@@ -10,12 +10,12 @@ at-requires c κs = search needs
 tail-requires : tie.Need-tail-requires
 tail-requires c κs = search needs
 
-is-digits-requires : tie.Need-is-digits-requires
-is-digits-requires c κs = search needs
+is-only-requires : tie.Need-is-only-requires
+is-only-requires c κs = search needs
 
 returns : tie.Need-returns
 unfolding isPointed
-returns c = rw (c .is-digits .ensures, c .before .tail .ensures, c .before .before .at .ensures)
+returns c = rw (c .is-only .ensures, c .before .tail .ensures, c .before .before .at .ensures)
 
 pub is-pointed-spec : {M : Type 1} → statement M
-is-pointed-spec = tie.close (tie.spec at-requires tail-requires is-digits-requires returns)
+is-pointed-spec = tie.close (tie.spec at-requires tail-requires is-only-requires returns)
