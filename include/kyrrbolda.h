@@ -83,7 +83,8 @@ enum kyrr_kind {
     KYRR_NO_VALUE = 0, /* the element has no numeric value, present or not */
     KYRR_ABSENT = 1,   /* the element has one and is absent from the observation */
     KYRR_WHOLE = 2,    /* ctr: the number is `whole` */
-    KYRR_DECIMAL = 3,  /* the number is `whole` with the last `part` digits after the point: 10.50 is 1050 with 2 places */
+    KYRR_DECIMAL = 3,  /* the number is `whole` with the last `part` digits after the point: 10.50 is 1050 with 2 places,
+                        * 12. is 12 with 0, .5 is 5 with 1 */
     KYRR_TIME = 4,     /* obsTime: `whole` is the day, 0 on 1858-11-17; `part` the microseconds of the day */
     KYRR_ANGLE = 5     /* ra and dec: `whole` is in units of 0.000000001 degree */
 };
