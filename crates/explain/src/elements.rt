@@ -79,41 +79,46 @@ fn print_named(name: &[u8], column: usize) {
             (crates/value/specs/Word.antt)\n\
           ctr|a whole number without leading zero, perhaps after a minus, no -0, at most 9 characters|8, 9|a whole number|with sys, pos1, \
             pos2 and pos3, all or none; 399 where sys is WGS84|`centre` (crates/value/specs/Centre.antt)\n\
-          pos1|a decimal, perhaps after a sign, at most 13 bytes without its sign|8, 9|its digits, and how many of them are places|with \
-            sys, ctr, pos2 and pos3, all or none|`decimal` (crates/value/specs/Decimal.antt)\n\
-          pos2|a decimal, perhaps after a sign, at most 13 bytes without its sign|8, 9|its digits, and how many of them are places|with \
-            sys, ctr, pos1 and pos3, all or none|`decimal` (crates/value/specs/Decimal.antt)\n\
-          pos3|a decimal, perhaps after a sign, at most 13 bytes without its sign|8, 9|its digits, and how many of them are places|with \
-            sys, ctr, pos1 and pos2, all or none|`decimal` (crates/value/specs/Decimal.antt)\n\
+          pos1|a decimal: perhaps a sign, then at most 13 bytes, digits and perhaps a point, which may come first or last|8, 9|its \
+            digits, and how many of them are places|with sys, ctr, pos2 and pos3, all or none|`decimal` \
+            (crates/value/specs/Decimal.antt)\n\
+          pos2|a decimal: perhaps a sign, then at most 13 bytes, digits and perhaps a point, which may come first or last|8, 9|its \
+            digits, and how many of them are places|with sys, ctr, pos1 and pos3, all or none|`decimal` \
+            (crates/value/specs/Decimal.antt)\n\
+          pos3|a decimal: perhaps a sign, then at most 13 bytes, digits and perhaps a point, which may come first or last|8, 9|its \
+            digits, and how many of them are places|with sys, ctr, pos1 and pos2, all or none|`decimal` \
+            (crates/value/specs/Decimal.antt)\n\
           prog|1 or 2 letters, digits, underscores or inner blanks|8, 9|none|as you like|`alphanumeric` \
             (crates/value/specs/Characters.antt)\n\
           obsTime|yyyy-mm-ddThh:mm:ss, perhaps a point and 1 to 6 digits, then Z; a date from year 0001 on, a time from 00:00:00 to \
             23:59:59|9; 10 where there is no such date or time|the day, 0 on 1858-11-17, and the microseconds of the day|needed|`obsTime` \
             (crates/value/specs/Time.antt)\n\
-          rmsTime|a decimal above 0, at most 8 bytes|8, 9; 10 for zero|its digits, and how many of them are places|as you like|`decimal` \
+          rmsTime|a decimal above 0: at most 8 bytes, digits and perhaps a point, which may come first or last|8, 9; 10 for zero|its \
+            digits, and how many of them are places|as you like|`decimal` (crates/value/specs/Decimal.antt)\n\
+          ra|degrees from 0 to below 360: up to 3 digits without leading zero, perhaps a point and up to 9 more; at least 1 digit|9; 10 \
+            from 360 on|in units of 0.000000001 degree|needed|`rightAscension` (crates/value/specs/Angle.antt)\n\
+          dec|degrees from -90 to 90: perhaps a sign, up to 2 digits without leading zero, perhaps a point and up to 9 more; at least 1 \
+            digit|9; 10 beyond 90|in units of 0.000000001 degree|needed|`declination` (crates/value/specs/Angle.antt)\n\
+          rmsRA|a decimal above 0: at most 7 bytes, digits and perhaps a point, which may come first or last|8, 9; 10 for zero|its \
+            digits, and how many of them are places|needed with rmsCorr|`decimal` (crates/value/specs/Decimal.antt)\n\
+          rmsDec|a decimal above 0: at most 7 bytes, digits and perhaps a point, which may come first or last|8, 9; 10 for zero|its \
+            digits, and how many of them are places|needed with rmsCorr|`decimal` (crates/value/specs/Decimal.antt)\n\
+          rmsCorr|a decimal from -1 to 1: perhaps a sign, then at most 13 bytes, digits and perhaps a point, which may come first or last|\
+            8, 9; 10 beyond 1|its digits, and how many of them are places|needs rmsRA and rmsDec|`correlation` \
             (crates/value/specs/Decimal.antt)\n\
-          ra|degrees from 0 to below 360: 1 to 3 digits without leading zero, perhaps a point and 1 to 9 digits|9; 10 from 360 on|in \
-            units of 0.000000001 degree|needed|`rightAscension` (crates/value/specs/Angle.antt)\n\
-          dec|degrees from -90 to 90: perhaps a sign, 1 or 2 digits without leading zero, perhaps a point and 1 to 9 digits|9; 10 beyond \
-            90|in units of 0.000000001 degree|needed|`declination` (crates/value/specs/Angle.antt)\n\
-          rmsRA|a decimal above 0, at most 7 bytes|8, 9; 10 for zero|its digits, and how many of them are places|needed with rmsCorr|\
-            `decimal` (crates/value/specs/Decimal.antt)\n\
-          rmsDec|a decimal above 0, at most 7 bytes|8, 9; 10 for zero|its digits, and how many of them are places|needed with rmsCorr|\
-            `decimal` (crates/value/specs/Decimal.antt)\n\
-          rmsCorr|a decimal from -1 to 1, perhaps after a sign, at most 13 bytes without its sign|8, 9; 10 beyond 1|its digits, and how \
-            many of them are places|needs rmsRA and rmsDec|`correlation` (crates/value/specs/Decimal.antt)\n\
           astCat|1 to 8 letters, digits, underscores or inner blanks|8, 9|none|needed|`alphanumeric` \
             (crates/value/specs/Characters.antt)\n\
-          mag|a decimal, perhaps after a sign, at most 6 bytes without its sign|8, 9|its digits, and how many of them are places|needs \
-            band; needed with rmsMag, band, photCat and photAp|`decimal` (crates/value/specs/Decimal.antt)\n\
-          rmsMag|a decimal above 0, at most 6 bytes|8, 9; 10 for zero|its digits, and how many of them are places|needs mag and band|\
-            `decimal` (crates/value/specs/Decimal.antt)\n\
+          mag|a decimal: perhaps a sign, then at most 6 bytes, digits and perhaps a point, which may come first or last|8, 9|its digits, \
+            and how many of them are places|needs band; needed with rmsMag, band, photCat and photAp|`decimal` \
+            (crates/value/specs/Decimal.antt)\n\
+          rmsMag|a decimal above 0: at most 6 bytes, digits and perhaps a point, which may come first or last|8, 9; 10 for zero|its \
+            digits, and how many of them are places|needs mag and band|`decimal` (crates/value/specs/Decimal.antt)\n\
           band|1 to 3 letters, digits, underscores or inner blanks|8, 9|none|needs mag; needed with mag, rmsMag, photCat and photAp|\
             `alphanumeric` (crates/value/specs/Characters.antt)\n\
           photCat|1 to 8 letters, digits, underscores or inner blanks|8, 9|none|needs mag and band|`alphanumeric` \
             (crates/value/specs/Characters.antt)\n\
-          photAp|a decimal above 0, at most 6 bytes|8, 9; 10 for zero|its digits, and how many of them are places|needs mag and band|\
-            `decimal` (crates/value/specs/Decimal.antt)\n\
+          photAp|a decimal above 0: at most 6 bytes, digits and perhaps a point, which may come first or last|8, 9; 10 for zero|its \
+            digits, and how many of them are places|needs mag and band|`decimal` (crates/value/specs/Decimal.antt)\n\
           notes|1 to 6 letters, digits, underscores or inner blanks|8, 9|none|as you like|`alphanumeric` \
             (crates/value/specs/Characters.antt)\n\
           remarks|at most 300 bytes of any kind|8|none|as you like|`free` (crates/value/specs/Characters.antt)\n",
