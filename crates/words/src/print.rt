@@ -98,7 +98,7 @@ pub fn line_end() {
 
 // Prints the box's name and version.
 pub fn version() {
-    bytes(b"kyrrbolda 1.1");
+    bytes(b"kyrrbolda 1.2");
 }
 
 // Prints `accepted N`, or the refusal.
