@@ -1,11 +1,11 @@
 """Cases on the form of each element: at its edges, one byte past them, with wrong bytes.
 
-`RIGHT` and `WRONG` are written by hand from document 01, not worked out: the reference has to agree
-with them before a case is made.
+`RIGHT` and `WRONG` are written by hand from document 01 and order 2, not worked out, and the decimals of each width
+follow from how they are put together: the reference has to agree with all of them before a case is made.
 """
 
 import ades
-from reports import (MEASURED, PLACED, SURE, block, row, shuffled_columns, to_check, to_show, to_value)
+from reports import block, row, row_with, shuffled_columns, to_check, to_show, to_value
 
 BYTES_25 = b"abcdefghijklmnopqrstuvwxy"
 
@@ -34,8 +34,7 @@ RIGHT = {
     "ctr": {b"0": 0, b"1": 1, b"-1": -1, b"399": 399, b"10": 10, b"999999999": 999999999, b"-99999999": -99999999,
             b"100000000": 100000000},
     "pos1": {b"0": (0, 0), b"-0": (0, 0), b"+0.0": (0, 1), b"-0.00": (0, 2), b"-0.25": (-25, 2),
-             b"007.50": (750, 2), b"1234567890123": (1234567890123, 0), b"+9999999999999": (9999999999999, 0),
-             b"-9999999999999": (-9999999999999, 0), b"-0.00000000001": (-1, 11),
+             b"007.50": (750, 2), b"1234567890123": (1234567890123, 0), b"-0.00000000001": (-1, 11),
              b"12345678901.5": (123456789015, 1), b"1.50": (150, 2), b"0000000000000": (0, 0)},
     "pos2": {b"9999999999.99": (999999999999, 2), b"-1.2": (-12, 1), b"+1.20": (120, 2)},
     "pos3": {b"-00000000000.1": (-1, 1), b"2510.0": (25100, 1), b"5": (5, 0)},
@@ -46,23 +45,36 @@ RIGHT = {
                 b"1900-03-01T00:00:00Z": (15079, 0), b"2400-02-29T00:01:00.12Z": (197700, 60120000),
                 b"2023-04-30T00:00:01.123Z": (60064, 1123000), b"2023-12-31T23:00:00.1234Z": (60309, 82800123400),
                 b"2024-01-01T00:00:00.12345Z": (60310, 123450), b"1582-10-10T00:00:00Z": (-100845, 0)},
-    "rmsTime": {b"0.001": (1, 3), b"12345678": (12345678, 0), b"0.000001": (1, 6), b"99999999": (99999999, 0),
-                b"1": (1, 0), b"00000001": (1, 0), b"1.000000": (1000000, 6)},
+    "rmsTime": {b"0.001": (1, 3), b"12345678": (12345678, 0), b"0.000001": (1, 6), b"1": (1, 0), b"00000001": (1, 0),
+                b"1.000000": (1000000, 6)},
     "ra": {b"0": 0, b"0.0": 0, b"0.000000001": 1, b"359.999999999": 359999999999, b"9": 9000000000,
            b"10": 10000000000, b"99.9": 99900000000, b"100": 100000000000, b"199": 199000000000,
-           b"299.5": 299500000000, b"359": 359000000000, b"10.50": 10500000000, b"1.123456789": 1123456789},
+           b"299.5": 299500000000, b"359": 359000000000, b"10.50": 10500000000, b"1.123456789": 1123456789,
+           b".5": 500000000, b"5.": 5000000000, b"0.": 0, b".0": 0, b".000000000": 0, b".000000001": 1,
+           b".05": 50000000, b".999999999": 999999999, b"9.": 9000000000, b"10.": 10000000000, b"99.": 99000000000,
+           b"100.": 100000000000, b"359.": 359000000000, b"300.": 300000000000},
     "dec": {b"-0.25": -250000000, b"0": 0, b"-0": 0, b"+0": 0, b"+0.0": 0, b"90": 90000000000, b"-90": -90000000000,
             b"+90.000000000": 90000000000, b"-90.0": -90000000000, b"89.999999999": 89999999999, b"9": 9000000000,
-            b"-0.000000001": -1, b"+10.5": 10500000000, b"-10": -10000000000, b"-89.999999999": -89999999999},
+            b"-0.000000001": -1, b"+10.5": 10500000000, b"-10": -10000000000, b"-89.999999999": -89999999999,
+            b"90.": 90000000000, b"-90.": -90000000000, b"+90.": 90000000000, b"89.": 89000000000, b"-9.": -9000000000,
+            b".5": 500000000, b"-.5": -500000000, b"+.5": 500000000, b"5.": 5000000000, b"-5.": -5000000000,
+            b"+5.": 5000000000, b"0.": 0, b"-0.": 0, b"+0.": 0, b".0": 0, b"-.0": 0, b"+.0": 0, b"-.000000000": 0,
+            b".000000001": 1, b"-.000000001": -1, b"+.999999999": 999999999, b"-.999999999": -999999999,
+            b"-.05": -50000000},
     "rmsRA": {b"0.1": (1, 1), b"1234567": (1234567, 0), b"0.00001": (1, 5), b"100": (100, 0), b"0000001": (1, 0)},
-    "rmsDec": {b"00.1": (1, 1), b"9999999": (9999999, 0), b"1234.56": (123456, 2)},
+    "rmsDec": {b"00.1": (1, 1), b"1234.56": (123456, 2)},
     "rmsCorr": {b"1": (1, 0), b"-1": (-1, 0), b"+1.0": (10, 1), b"0": (0, 0), b"-0.0": (0, 1), b"001": (1, 0),
                 b"0.99999999999": (99999999999, 11), b"-0.99999999999": (-99999999999, 11),
-                b"1.00000000000": (100000000000, 11), b"-01.0000000000": (-10000000000, 10)},
+                b"1.00000000000": (100000000000, 11), b"-01.0000000000": (-10000000000, 10),
+                b"1.": (1, 0), b"-1.": (-1, 0), b"+1.": (1, 0), b".5": (5, 1), b"-.5": (-5, 1), b"+.5": (5, 1),
+                b"0.": (0, 0), b"-0.": (0, 0), b".0": (0, 1), b"-.0": (0, 1), b"+.000": (0, 3), b"1.0000": (10000, 4),
+                b"-001.": (-1, 0), b".999999999999": (999999999999, 12), b"-.999999999999": (-999999999999, 12),
+                b"+.000000000001": (1, 12), b"0000000000001": (1, 0), b"000000000001.": (1, 0),
+                b"-000000000001.": (-1, 0), b"+000000000000.": (0, 0)},
     "mag": {b"20.1": (201, 1), b"-26.74": (-2674, 2), b"+00.00": (0, 2), b"123456": (123456, 0),
             b"-123456": (-123456, 0), b"0": (0, 0), b"12.345": (12345, 3), b"+9.9999": (99999, 4),
             b"10.50": (1050, 2)},
-    "rmsMag": {b"0.1": (1, 1), b"0.0001": (1, 4), b"999999": (999999, 0), b"000001": (1, 0)},
+    "rmsMag": {b"0.1": (1, 1), b"0.0001": (1, 4), b"000001": (1, 0)},
     "photAp": {b"3.5": (35, 1), b"123456": (123456, 0), b"1234.5": (12345, 1)},
 }
 
@@ -134,19 +146,21 @@ WRONG = {
         8: [b"x" * 301, b"a" + b" " * 299 + b"b", b"#" * 1000],
     },
     "ctr": {
-        8: [b"1234567890", b"-123456789", b"+123456789", b"0000000000", b"abcdefghij", b"1 34567890"],
+        8: [b"1234567890", b"-123456789", b"+123456789", b"0000000000", b"abcdefghij", b"1 34567890", b"123456789.",
+            b".123456789", b"." * 10],
         9: [b"00", b"-0", b"01", b"-01", b"+1", b"-", b"+", b"--1", b"1.0", b"1-", b"a", b"+12345678", b"1 2",
-            b"3A9", b"000000000"],
+            b"3A9", b"000000000", b"399.", b".5", b".", b"-.", b"0.", b".0", b"-1.", b"-.5", b"12345678.", b".12345678",
+            b"." * 9],
     },
     "pos1": {
         8: [b"12345678901234", b"+12345678901234", b"-12345678901234", b"1234567890.123", b"abcdefghijklmn",
             b"--1234567890123", b"+" * 15, b"00000000000000"],
-        9: [b"+", b"-", b".", b"1.", b".1", b"-.1", b"+1.", b"--1", b"+-1", b"1-", b"1+", b"1.2.3", b"1,2", b"1e5",
-            b"1 2", b"a", b"+abcdefghijklm", b"1..2", b"- 1", b"0x10", b"1_0", b"--123456789012"],
+        9: [b"--1", b"+-1", b"1-", b"1+", b"1.2.3", b"1,2", b"1e5", b"1 2", b"a", b"+abcdefghijklm", b"1..2", b"- 1",
+            b"0x10", b"1_0", b"--123456789012"],
     },
     "pos2": {
         8: [b"0.000000000001"],
-        9: [b"1.-2", b"+"],
+        9: [b"1.-2", b"1.e5"],
     },
     "pos3": {
         8: [b"-1234567890.123"],
@@ -160,7 +174,10 @@ WRONG = {
             b"02024-03-01T04:05:06Z", b"-024-03-01T04:05:06Z", b"2024-03-01T04:05:06.5ZZ", b"Z",
             b"2024-03-01T04:05:06.5 Z", b"2024-03-01T04:05:06.-Z", b"2O24-03-01T04:05:06Z",
             b"2024-03-01T04:05:06+00", b"2024-03-01T04:05:0 Z", b"2024-03-01T04:05:065Z", b"2024-13-01T04:05:06",
-            b"2024-03-01T0:405:06Z", b"2024-03-01T04:05:06.12345xZ"],
+            b"2024-03-01T0:405:06Z", b"2024-03-01T04:05:06.12345xZ", b"2024-03-01T04:05:06..Z",
+            b"2024-03-01T04:05:06..5Z", b"2024-03-01T04:05:06.5.Z", b"2024-03-01T04:05:6.Z", b"2024-03-01T04:05:.5Z",
+            b"2024-03-01T04:05:06.", b"2024-03-01T04:05:06Z.", b"2024-03-01T04:05:06.123456.Z", b".Z", b".",
+            b"2024-13-01T24:60:60.Z"],
         10: [b"2023-02-29T00:00:00Z", b"0000-01-01T00:00:00Z", b"2024-00-01T00:00:00Z", b"2024-13-01T00:00:00Z",
              b"2024-01-00T00:00:00Z", b"2024-01-32T00:00:00Z", b"2024-02-30T00:00:00Z", b"2024-04-31T00:00:00Z",
              b"2024-06-31T00:00:00Z", b"2024-09-31T00:00:00Z", b"2024-11-31T00:00:00Z", b"1900-02-29T00:00:00Z",
@@ -169,23 +186,31 @@ WRONG = {
              b"9999-99-99T99:99:99Z"],
     },
     "rmsTime": {
-        8: [b"123456789", b"0.0000001", b"-12345678", b"00000000.", b"000000000"],
-        9: [b"-1", b"+1", b"-0", b".1", b"1.", b"a", b"1.2.3", b"-1234567", b"0.", b"1e-3"],
+        8: [b"123456789", b"0.0000001", b"-12345678", b"000000000"],
+        9: [b"-1", b"+1", b"-0", b"a", b"1.2.3", b"-1234567", b"1e-3"],
         10: [b"0", b"0.0", b"0.000000", b"00000000"],
     },
     "ra": {
-        9: [b"005", b"00", b"01", b"400", b"999.9", b"1000", b"-1", b"+1", b"-0", b".5", b"5.", b"10.1234567890",
-            b"a", b"1 0", b"10.5.5", b"00.5", b"000", b"012.3", b"10:30", b"3600", b"10.", b"360.0000000000"],
-        10: [b"360", b"360.0", b"399.9", b"360.000000001", b"361", b"399", b"370.123456789"],
+        9: [b"005", b"00", b"01", b"400", b"999.9", b"1000", b"-1", b"+1", b"-0", b"10.1234567890", b"a", b"1 0",
+            b"10.5.5", b"00.5", b"000", b"012.3", b"10:30", b"3600", b"360.0000000000", b".", b"+", b"-", b"+.", b"-.",
+            b"..", b"..5", b"5..", b".5.", b". 5", b"5 .", b"+.5", b"-.5", b"+5.", b"-5.", b"-.0", b".-5", b"5.+",
+            b"00.", b"05.", b"000.", b"005.", b"00.0", b"012.", b"400.", b"999.", b"1000.", b"3600.", b".a", b"a.",
+            b".9999999999", b".0000000000", b".1234567890", b"0.0000000000", b"." * 10, b"." * 40],
+        10: [b"360", b"360.0", b"399.9", b"360.000000001", b"361", b"399", b"370.123456789", b"360.", b"361.", b"399.",
+             b"370.", b"360.000000000"],
     },
     "dec": {
-        9: [b"00", b"01", b"-01", b"+00.5", b"100", b"-100", b"+", b"-", b"--1", b"+-1", b".5", b"-.5", b"5.",
-            b"1.0123456789", b"a", b"1 2", b"-10.5.5", b"- 1", b"090", b"-90:00", b"999"],
-        10: [b"91", b"-91", b"90.000000001", b"-90.000000001", b"+90.1", b"99", b"-99.999999999", b"90.1"],
+        9: [b"00", b"01", b"-01", b"+00.5", b"100", b"-100", b"+", b"-", b"--1", b"+-1", b"1.0123456789", b"a", b"1 2",
+            b"-10.5.5", b"- 1", b"090", b"-90:00", b"999", b".", b"+.", b"-.", b"..", b"-..", b"..5", b"-..5", b"5..",
+            b".5.", b"-.5.", b". 5", b"5 .", b"-. 5", b"- .5", b"--.5", b"+-5.", b"-+.", b".-5", b"-5.-", b"00.",
+            b"-00.", b"+05.", b"09.", b"100.", b"-100.", b"900.", b".a", b"-a.", b".9999999999", b"-.9999999999",
+            b"+.0000000000", b"-0.0000000000", b"-" + b"." * 10, b"." * 40],
+        10: [b"91", b"-91", b"90.000000001", b"-90.000000001", b"+90.1", b"99", b"-99.999999999", b"90.1", b"91.",
+             b"-91.", b"+91.", b"99.", b"-99."],
     },
     "rmsRA": {
         8: [b"12345678", b"0.000001", b"-1234567", b"+1234.56"],
-        9: [b"-0.1", b"+0.1", b".1", b"1.", b"-0", b"x"],
+        9: [b"-0.1", b"+0.1", b"-0", b"x"],
         10: [b"0", b"0.0", b"0.00000"],
     },
     "rmsDec": {
@@ -195,21 +220,22 @@ WRONG = {
     },
     "rmsCorr": {
         8: [b"0.123456789012", b"-0.123456789012", b"12345678901234", b"1.000000000000"],
-        9: [b"+", b"1.", b".5", b"-.5", b"--1", b"a", b"1/2", b"+-0.5"],
-        10: [b"2", b"-2", b"1.00000000001", b"-1.0000000001", b"+1.1", b"10", b"-1.00000000001", b"1234567890123"],
+        9: [b"--1", b"a", b"1/2", b"+-0.5"],
+        10: [b"2", b"-2", b"1.00000000001", b"-1.0000000001", b"+1.1", b"10", b"-1.00000000001", b"1234567890123",
+             b"2.", b"-2.", b"+2.", b"1.1", b"10.", b"-11.", b"01.00001", b"999999999999.", b"-000000000002."],
     },
     "mag": {
         8: [b"1234567", b"-1234567", b"12.3456", b"+-12345.6", b"abcdefg"],
-        9: [b"20.", b".5", b"-", b"2 0", b"20m", b"<20.1", b"+-1"],
+        9: [b"2 0", b"20m", b"<20.1", b"+-1"],
     },
     "rmsMag": {
         8: [b"0.00001", b"1234567", b"-123456"],
-        9: [b"-0.1", b"+0.1", b"1.", b"a"],
+        9: [b"-0.1", b"+0.1", b"a"],
         10: [b"0", b"0.0", b"0.0000", b"000000"],
     },
     "photAp": {
         8: [b"1234567", b"+123456"],
-        9: [b"-3.5", b"+3.5", b"3.", b"3,5"],
+        9: [b"-3.5", b"+3.5", b"3,5"],
         10: [b"0", b"00.000", b"0.00"],
     },
 }
@@ -217,15 +243,64 @@ WRONG = {
 TIMES, ANGLES, WHOLES = ("obsTime",), ("ra", "dec"), ("ctr",)
 
 
-def row_with(name, value):
-    """The specimen's observation with this value and what must stand beside it."""
-    beside = {}
-    for group in (PLACED, MEASURED, SURE):
-        if name in group:
-            beside = dict(group)
-    if name == "ctr" or (name == "sys" and value != b"WGS84"):
-        beside.update({"sys": b"IAU", "ctr": b"301"})
-    return row(**{**beside, name: value})
+# ---- decimals with the point first or last, by their width
+
+SIGNED = {"pos1": 13, "pos2": 13, "pos3": 13, "mag": 6}
+POSITIVE = {"rmsTime": 8, "rmsRA": 7, "rmsDec": 7, "rmsMag": 6, "photAp": 6}
+SIGNS = {b"": 1, b"+": 1, b"-": -1}
+
+
+def above_zero(width):
+    """Decimals above zero, short ones and those of exactly the width, also in digits alone: whole number and places."""
+    digits = width - 1
+    return {b"12.": (12, 0), b".5": (5, 1), b"010.": (10, 0), b".010": (10, 3), b"9" * width: (10 ** width - 1, 0),
+            b"9" * digits + b".": (10 ** digits - 1, 0), b"." + b"9" * digits: (10 ** digits - 1, digits),
+            b"0" * (digits - 1) + b"1.": (1, 0), b"." + b"0" * (digits - 1) + b"1": (1, digits)}
+
+
+def zeros(width):
+    """Zeros in the same way."""
+    digits = width - 1
+    return {b"0.": (0, 0), b".0": (0, 1), b"00.": (0, 0), b".000": (0, 3),
+            b"0" * digits + b".": (0, 0), b"." + b"0" * digits: (0, digits)}
+
+
+def misshapen(width):
+    """Texts within the width that no sign makes a decimal: no digit, two points, or another byte."""
+    return [b".", b"..", b"..5", b"5..", b".5.", b". 5", b"5 .", b".+5", b"5.-", b".a", b"a.", b"." * width,
+            b"." + b"9" * (width - 2) + b"."]
+
+
+def passing(width):
+    """Texts that pass the width by one byte, decimals that would fit without their point among them."""
+    return [b"9" * width + b".", b"." + b"9" * width, b"0" * width + b".", b"." + b"0" * width, b"." * (width + 1),
+            b"." + b"9" * (width - 1) + b"."]
+
+
+def right_decimals():
+    """Element, value and what it is worth."""
+    for name, width in SIGNED.items():
+        for text, (number, places) in {**above_zero(width), **zeros(width)}.items():
+            for sign, factor in SIGNS.items():
+                yield name, sign + text, (factor * number, places)
+    for name, width in POSITIVE.items():
+        for text, worth in above_zero(width).items():
+            yield name, text, worth
+
+
+def wrong_decimals():
+    """Element, value and refusal number. A sign counts in the width of a positive decimal, and not of a signed one."""
+    for name, width in {**SIGNED, "rmsCorr": 13}.items():
+        for sign in SIGNS:
+            yield from ((name, sign + text, 9) for text in misshapen(width))
+            yield from ((name, sign + text, 8) for text in passing(width))
+        yield from ((name, text, 9) for text in (b"+", b"-", b"+-", b"--.5", b"+-5.", b"-+."))
+    for name, width in POSITIVE.items():
+        yield from ((name, text, 9) for text in (b"+", b"-", b"+.", b"-.", *misshapen(width)))
+        yield from ((name, text, 8) for text in passing(width))
+        yield from ((name, text, 10) for text in zeros(width))
+        for text in {**above_zero(width), **zeros(width)}:
+            yield from ((name, sign + text, 9 if len(text) < width else 8) for sign in (b"+", b"-"))
 
 
 def expected_worth(name, worth):
@@ -246,28 +321,41 @@ def report_around(chance, name, value):
     return report, len(rows) + 2, columns.index(ades.NUMBERS[name.encode()]) + 1, len(rows)
 
 
+# ---- the cases
+
+def right_values():
+    """Element, value, and what it is worth where it is worth something."""
+    for name, given in RIGHT.items():
+        yield from ((name, value, given[value] if isinstance(given, dict) else None) for value in given)
+    yield from right_decimals()
+
+
+def wrong_values():
+    """Element, value and refusal number."""
+    for name, by_number in WRONG.items():
+        yield from ((name, value, number) for number, given in by_number.items() for value in given)
+    yield from wrong_decimals()
+
+
 def right_cases(chance):
     """Each right value shown, and valued where it is worth something."""
-    for name, given in RIGHT.items():
+    for name, value, worth in right_values():
         element = ades.NUMBERS[name.encode()]
-        for value in given:
-            report, _, _, observation = report_around(chance, name, value)
-            answer, start, length = ades.showing(report, observation, element)
-            assert answer == "shown" and report[start:start + length] == value, (name, value)
-            yield to_show(report, observation, element)
-            if isinstance(given, dict):
-                assert ades.value(report, observation, element) == expected_worth(name, given[value]), (name, value)
-                yield to_value(report, observation, element)
+        report, _, _, observation = report_around(chance, name, value)
+        answer, start, length = ades.showing(report, observation, element)
+        assert answer == "shown" and report[start:start + length] == value, (name, value)
+        yield to_show(report, observation, element)
+        if worth is not None:
+            assert ades.value(report, observation, element) == expected_worth(name, worth), (name, value)
+            yield to_value(report, observation, element)
 
 
 def wrong_cases(chance):
     """Each wrong value refused, at its line and place."""
-    for name, by_number in WRONG.items():
-        for number, given in by_number.items():
-            for value in given:
-                report, line, place, _ = report_around(chance, name, value)
-                assert ades.read(report) == ades.refused(number, line, place), (name, value, ades.read(report))
-                yield to_check(report)
+    for name, value, number in wrong_values():
+        report, line, place, _ = report_around(chance, name, value)
+        assert ades.read(report) == ades.refused(number, line, place), (name, value, ades.read(report))
+        yield to_check(report)
 
 
 # Values with a shape: what happens when one byte of them is another.
@@ -277,11 +365,11 @@ SHAPED = {
     "artSat": [b"1998-067ABC"],
     "ctr": [b"-31"],
     "obsTime": [b"2024-12-29T19:55:09.123456Z"],
-    "ra": [b"359.123456789"],
-    "dec": [b"-89.123456789"],
-    "rmsCorr": [b"-0.5"],
-    "mag": [b"+1.25"],
-    "rmsMag": [b"10.5"],
+    "ra": [b"359.123456789", b"359.", b".999999999"],
+    "dec": [b"-89.123456789", b"-89.", b"+.5"],
+    "rmsCorr": [b"-0.5", b"-1.", b"+.5"],
+    "mag": [b"+1.25", b"-12.", b"+.125"],
+    "rmsMag": [b"10.5", b"10.", b".01"],
 }
 OTHER_BYTES = b"0123569AIPZaz_ -+./:"
 

@@ -66,6 +66,17 @@ MEASURED = {"mag": b"20.1", "rmsMag": b"0.1", "band": b"G", "photCat": b"Gaia2",
 SURE = {"rmsRA": b"0.1", "rmsDec": b"0.2", "rmsCorr": b"-0.5"}
 
 
+def row_with(name, value):
+    """The specimen's observation with this value and what must stand beside it."""
+    beside = {}
+    for group in (PLACED, MEASURED, SURE):
+        if name in group:
+            beside = dict(group)
+    if name == "ctr" or (name == "sys" and value != b"WGS84"):
+        beside.update({"sys": b"IAU", "ctr": b"301"})
+    return row(**{**beside, name: value})
+
+
 def whole_row(**changes):
     """An observation with all 29 elements present, with elements changed or taken away."""
     rest = {"permID": b"123P-A", "provID": b"2016 AZ6", "artSat": b"1998-067A", "obsID": b"x_1",
@@ -143,11 +154,11 @@ def some(chance, allowed, least, most):
 
 
 def random_number(chance, width):
-    """A decimal above zero of at most so many bytes."""
-    before = some(chance, DIGITS, 1, max(1, width - 3))
-    after = some(chance, DIGITS, 1, 2)
-    text = before + b"." + after if len(before) + 1 + len(after) <= width and chance.random() < 0.7 else before
-    return text if text.strip(b"0.") else b"1" + text[1:]
+    """A decimal above zero of at most so many bytes, now and then with its point first or last."""
+    digits = some(chance, DIGITS, 1, width - 1)
+    at = chance.randint(0, len(digits))
+    text = digits[:at] + b"." + digits[at:] if chance.random() < 0.7 else digits
+    return text if text.strip(b"0.") else text.replace(b"0", b"1", 1)
 
 
 def random_sign(chance):
@@ -155,10 +166,10 @@ def random_sign(chance):
     return chance.choice((b"", b"", b"-", b"+"))
 
 
-def random_angle(chance, least, below):
-    """Whole degrees from the least to below the bound, mostly with places."""
-    text = b"%d" % chance.randint(least, below - 1)
-    return text + b"." + some(chance, DIGITS, 1, 9) if chance.random() < 0.8 else text
+def random_places(chance, integer, most):
+    """The integer part, mostly with a point and places; now and then the point has digits on one side alone."""
+    places = b"." + some(chance, DIGITS, 1, most)
+    return chance.choice((integer, integer + b".", places, *[integer + places] * 5))
 
 
 def random_time(chance):
@@ -202,9 +213,9 @@ def random_value(chance, element):
         6: lambda: some(chance, range(0x21, 0x7C), 1, 25),
         10: lambda: b"%d" % chance.choice((0, 399, 301, -31, chance.randint(-999, 9999))),
         15: lambda: random_time(chance),
-        17: lambda: random_angle(chance, 0, 360),
-        18: lambda: random_sign(chance) + random_angle(chance, 0, 90),
-        21: lambda: random_sign(chance) + b"0." + some(chance, DIGITS, 1, 11),
+        17: lambda: random_places(chance, b"%d" % chance.randrange(360), 9),
+        18: lambda: random_sign(chance) + random_places(chance, b"%d" % chance.randrange(90), 9),
+        21: lambda: random_sign(chance) + random_places(chance, b"0", 11),
         29: lambda: some(chance, ALPHANUMERICS, 1, chance.choice((5, 40, 300))),
     }[element]()
 

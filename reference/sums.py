@@ -1,22 +1,25 @@
-"""Document 01's sums, and checks of the reference against itself, made before any case is written."""
+"""Sums of document 01 and of order 2, and checks of the reference against itself, made before any case is written."""
 
 import datetime
+import decimal
+import itertools
+import re
 
 import ades
 import night
 import values
-from reports import PLACED, SPECIMEN, block, random_layout, random_rows, random_shape, row, small_row
+from reports import PLACED, SPECIMEN, block, random_layout, random_rows, random_shape, row, row_with, small_row
 
 
 def fault(element, text):
     """The number of the refusal that a report with this value gets, or 0."""
-    answer = ades.read(block([row(**{element: text})]))
+    answer = ades.read(block([row_with(element, text)]))
     return answer[1] if ades.is_refused(answer) else 0
 
 
 def worth(element, text):
-    """What the value is worth in a report that is like the specimen but for it."""
-    return ades.value(block([row(**{element: text})]), 1, ades.NUMBERS[element.encode()])
+    """What the value is worth in a report that is like the specimen but for it and what must stand beside it."""
+    return ades.value(block([row_with(element, text)]), 1, ades.NUMBERS[element.encode()])
 
 
 def proved_sums():
@@ -33,6 +36,22 @@ def proved_sums():
     assert fault("provID", b"2016 AZ6") == 0 and fault("provID", b"2016 AI6") == 9
     assert ades.read(block([row(**{**PLACED, "ctr": b"398"})])) == ades.refused(13, 3, 10)
     assert ades.read(block([row(mag=b"20.1")])) == ades.refused(12, 3, 25)
+
+
+def sums_of_decimals():
+    """Order 2: the point first or last, with each sign; alone; in the width; at the ends of ra, dec and rmsCorr."""
+    assert worth("mag", b"12.") == ("decimal", 12, 0) and worth("mag", b".5") == ("decimal", 5, 1)
+    assert worth("mag", b"-.5") == ("decimal", -5, 1) and worth("mag", b"+12.") == ("decimal", 12, 0)
+    for alone in (b".", b"+.", b"-.", b"+", b"-"):
+        assert fault("mag", alone) == fault("dec", alone) == fault("ra", alone) == fault("rmsMag", alone) == 9
+    assert fault("mag", b"123456") == fault("mag", b"12345.") == fault("mag", b".12345") == 0
+    assert fault("mag", b"123456.") == fault("mag", b".123456") == 8
+    assert fault("rmsMag", b"0.") == fault("rmsMag", b".0") == 10 and worth("rmsMag", b".1") == ("decimal", 1, 1)
+    assert worth("ra", b".5") == ("angle", 500_000_000) and worth("ra", b"12.") == ("angle", 12_000_000_000)
+    assert fault("ra", b"360.") == 10 and fault("ra", b"00.") == 9
+    assert worth("dec", b"-.5") == ("angle", -500_000_000) and worth("dec", b"90.") == ("angle", 90_000_000_000)
+    assert worth("rmsCorr", b"-1.") == ("decimal", -1, 0) and fault("rmsCorr", b"2.") == 10
+    assert fault("ctr", b"301.") == fault("ctr", b".5") == fault("obsTime", b"2024-03-01T04:05:06.Z") == 9
 
 
 def run_rows(count):
@@ -65,6 +84,42 @@ def day_numbers():
         for month, day in ((1, 1), (2, 28), (3, 1), (12, 31)):
             day_number, _ = values.time(b"%04d-%02d-%02dT00:00:00Z" % (year, month, day))
             assert day_number == datetime.date(year, month, day).toordinal() - origin
+
+
+# The decimal of XML Schema, and the patterns of document 001 for decimals without a sign, ra and dec.
+DECIMAL = re.compile(rb"[+-]?([0-9]+(\.[0-9]*)?|\.[0-9]+)")
+UNSIGNED = re.compile(rb"[0123456789\.]{1,16}")
+RIGHT_ASCENSION = re.compile(rb"([1-3][0-9]{2}|[1-9]?[0-9])?(\.[0-9]{0,9})?")
+DECLINATION = re.compile(rb"[+\-]?([1-9]?[0-9])?(\.[0123456789]{0,9})?")
+# What document 01 took for a decimal, before order 2.
+TAKEN_BEFORE = re.compile(rb"[+-]?[0-9]+(\.[0-9]+)?")
+
+
+def judged_by_patterns(text):
+    """The text is taken as a decimal, ra or dec where it is one of XML Schema and fits the pattern, and is worth what
+    Python's decimals say; what document 01 took is among these. The text is short: no width is passed."""
+    number = decimal.Decimal(text.decode()) if DECIMAL.fullmatch(text) else None
+    for given, pattern, is_within in (
+            (values.signed_decimal(text, 6), DECIMAL, lambda: True),
+            (values.positive_decimal(text, 6), UNSIGNED, lambda: number > 0),
+            (values.correlation(text), DECIMAL, lambda: abs(number) <= 1),
+            (values.right_ascension(text), RIGHT_ASCENSION, lambda: number < 360),
+            (values.declination(text), DECLINATION, lambda: abs(number) <= 90)):
+        is_form = number is not None and pattern.fullmatch(text)
+        assert given == (9 if not is_form else 0 if is_within() else 10), (text, given)
+    if number is None:
+        assert not TAKEN_BEFORE.fullmatch(text), text
+    else:
+        places = -number.as_tuple().exponent
+        assert values.decimal(text) == (number.scaleb(places), places), text
+        assert values.angle(text) == number.scaleb(9), text
+
+
+def short_decimals():
+    """Every text of one to five of these bytes."""
+    for length in range(1, 6):
+        for text in itertools.product(b"0139+-. ", repeat=length):
+            judged_by_patterns(bytes(text))
 
 
 def packs_well(rows, chance, layouts=3):
@@ -145,8 +200,10 @@ def check_night_list(chance):
 def check_reference(chance):
     """All of the above, and packing of many small reports by chance."""
     proved_sums()
+    sums_of_decimals()
     sums_to_be_run()
     day_numbers()
+    short_decimals()
     for _ in range(150):
         shapes = [random_shape(chance) for _ in range(chance.choice((1, 2, 3)))]
         packs_well(random_rows(chance, chance.randint(1, 8), shapes), chance)

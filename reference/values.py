@@ -1,4 +1,4 @@
-"""The forms of the values and what they are worth, from document 01's table of elements.
+"""The forms of the values and what they are worth, from document 01's table of elements and document 02's order 2.
 
 Every form is a function from a value's bytes to its fault: 0 for none, 8 too wide, 9 wrong form,
 10 out of its range or vocabulary. A value is never empty and never begins or ends with a blank:
@@ -144,9 +144,9 @@ def artificial_satellite(value):
 # ---- numbers
 
 def is_decimal(text):
-    """A decimal is digits, then optionally a point and digits, at least one digit on each side of a point."""
-    before, point, after = text.partition(b".")
-    return are_digits(before) and (point == b"" or are_digits(after))
+    """A decimal is one or more digits, optionally with one point before, between or after them (order 2)."""
+    before, _, after = text.partition(b".")
+    return are_digits(before + after)
 
 
 def decimal(value):
@@ -202,10 +202,10 @@ DEGREE = 1_000_000_000
 
 
 def is_angle(text, most_digits):
-    """An integer part without leading zero except `0` alone, optionally a point and 1 to 9 digits."""
-    before, point, after = text.partition(b".")
-    return (are_digits(before) and len(before) <= most_digits and (before == b"0" or has_no_leading_zero(before))
-            and (point == b"" or (are_digits(after) and len(after) <= 9)))
+    """A decimal: an integer part of at most so many digits, no leading zero except `0` alone, and up to 9 places."""
+    before, _, after = text.partition(b".")
+    return (is_decimal(text) and len(before) <= most_digits and (before == b"0" or has_no_leading_zero(before))
+            and len(after) <= 9)
 
 
 def angle(value):
@@ -215,7 +215,7 @@ def angle(value):
 
 
 def right_ascension(value):
-    """An integer part of one to three digits; three digits start with 1, 2 or 3; 0 to below 360."""
+    """An integer part of up to three digits; three digits start with 1, 2 or 3; 0 to below 360."""
     before = value.partition(b".")[0]
     if not is_angle(value, 3) or (len(before) == 3 and before[:1] not in (b"1", b"2", b"3")):
         return WRONG_FORM
@@ -223,7 +223,7 @@ def right_ascension(value):
 
 
 def declination(value):
-    """Optional sign, integer part of one or two digits, the same places; -90 to 90 inclusive."""
+    """Optional sign, integer part of up to two digits, the same places; -90 to 90 inclusive."""
     if not is_angle(without_sign(value), 2):
         return WRONG_FORM
     return 0 if -90 * DEGREE <= angle(value) <= 90 * DEGREE else OUT_OF_RANGE
