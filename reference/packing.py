@@ -6,7 +6,7 @@ from ades import ELEMENTS, ROW_LIMIT, TEXT_LIMIT
 from limits import FULL, filled
 from refusals import FAULTY_BLOCKS
 from reports import (COLUMNS, ROW, SPECIMEN, VERSION, block, random_layout, random_row, random_rows, random_shape, row,
-                     shuffled_columns, small_row, to_pack, whole_row)
+                     row_with, shuffled_columns, small_row, to_pack, whole_row)
 from sums import packs_well, run_rows
 
 LARGEST_ROOM = 70_000
@@ -71,6 +71,38 @@ def layouts(chance):
     kept = row(ra=b"10.50", dec=b"+0.0", remarks=b"# version=2022", obsSubID=b"#", mag=b"+01.0", band=b"G")
     yield from pack_cases(chance, block([kept, row()], reverse), 2)
     yield from pack_cases(chance, VERSION + b" " + COLUMNS + b" " * 9 + ROW + SPECIMEN, 2)
+
+
+# ---- bare points
+
+SPELLINGS = (b"12", b"12.", b"12.0", b"+12.", b"012.", b".5", b"0.5", b".50", b"-.5", b"-0.5")
+
+SPELT = b"""# version=2022
+trkSub|mode|stn|obsTime|ra|dec|astCat|mag|band
+a1|CCD|W84|2024-03-01T04:05:06.5Z|12|-.5|Gaia2|12|G
+a1|CCD|W84|2024-03-01T04:05:06.5Z|12.|-0.5|Gaia2|12.|G
+a1|CCD|W84|2024-03-01T04:05:06.5Z|12.0|90.|Gaia2|12.0|G
+a1|CCD|W84|2024-03-01T04:05:06.5Z|.5|90|Gaia2|+12.|G
+"""
+
+
+def bare_points(chance):
+    """Values that are equal as numbers and differ by a point or more are kept, byte for byte; the point is counted."""
+    rows = [row(ra=ra, dec=dec, mag=mag, band=b"G") for ra, dec, mag in (
+        (b"12", b"-.5", b"12"), (b"12.", b"-0.5", b"12."), (b"12.0", b"90.", b"12.0"), (b".5", b"90", b"+12."))]
+    for report in (SPELT, block(rows, list(ELEMENTS), chance), b"".join(block([each]) for each in rows)):
+        assert ades.pack(report, len(SPELT)) == ("packed", SPELT)
+        assert ades.pack(report, len(SPELT) - 1) == ades.refused(15, 0, 0)
+        yield from pack_cases(chance, report, 3)
+    for name in ("pos1", "pos2", "pos3", "mag"):
+        yield from pack_cases(chance, random_layout(chance, [row_with(name, text) for text in SPELLINGS]), 2)
+    for name in ("rmsTime", "rmsRA", "rmsDec", "rmsMag", "photAp"):
+        rows = [row_with(name, text) for text in SPELLINGS if text[:1] not in b"+-"]
+        yield from pack_cases(chance, random_layout(chance, rows), 2)
+    rows = [row_with("rmsCorr", text) for text in (b"1", b"1.", b"+1.", b"001.", b"1.0", b".5", b"-.5", b"0.5")]
+    yield from pack_cases(chance, random_layout(chance, rows), 2)
+    rows = [row(ra=ra, dec=dec) for ra, dec in ((b"0", b"-.0"), (b"0.", b"-0."), (b".0", b"0."), (b"0.0", b".0"))]
+    yield from pack_cases(chance, random_layout(chance, rows), 2)
 
 
 # ---- shapes that share few columns, so that a cut is worth its bytes
@@ -243,6 +275,7 @@ def cases(chance):
     yield from of_document(chance)
     yield from refused(chance)
     yield from layouts(chance)
+    yield from bare_points(chance)
     yield from two_kinds_in_turn(chance)
     yield from far_apart(chance, 40)
     yield from ties(chance, one_block_as_long_as_two, 1, 20)
