@@ -242,21 +242,23 @@ static unsigned centre(const uint8_t *value, size_t length)
     return value[sign] == '0' && length > 1 ? 9 : 0;
 }
 
-/* Digits, then optionally a point and digits. Gives the digits before the point, or 0 for another
- * form, and the digits' bytes all or-ed together. */
+#define NO_DECIMAL SIZE_MAX
+
+/* One or more digits, optionally with one point before, between or after them. Gives the digits before
+ * the point, or NO_DECIMAL for another form, and the digits' bytes all or-ed together. */
 static inline size_t decimal(const uint8_t *value, size_t length, unsigned *bits)
 {
     size_t before = 0, at;
     *bits = 0;
     while (before < length && is_digit(value[before]))
         *bits |= value[before++];
-    if (before == length || before == 0)
-        return before;
-    if (value[before] != '.' || before + 1 == length)
-        return 0;
+    if (before == length)
+        return length ? before : NO_DECIMAL;
+    if (value[before] != '.' || length == 1)
+        return NO_DECIMAL;
     for (at = before + 1; at < length; at++) {
         if (!is_digit(value[at]))
-            return 0;
+            return NO_DECIMAL;
         *bits |= value[at];
     }
     return before;
@@ -272,7 +274,7 @@ static unsigned positive(const uint8_t *value, size_t length, size_t width)
     unsigned bits;
     if (length > width)
         return 8;
-    if (!decimal(value, length, &bits))
+    if (decimal(value, length, &bits) == NO_DECIMAL)
         return 9;
     return above_zero(bits) ? 0 : 10;
 }
@@ -283,24 +285,24 @@ static unsigned signed_decimal(const uint8_t *value, size_t length, size_t width
     size_t sign = sign_of(value);
     if (length - sign > width)
         return 8;
-    return decimal(value + sign, length - sign, &bits) ? 0 : 9;
+    return decimal(value + sign, length - sign, &bits) == NO_DECIMAL ? 9 : 0;
 }
 
 static unsigned correlation(const uint8_t *value, size_t length)
 {
-    unsigned bits, units = 0;
+    unsigned bits, units;
     size_t sign = sign_of(value), before, i;
     if (length - sign > longest[RMS_CORR])
         return 8;
     value += sign;
     length -= sign;
     before = decimal(value, length, &bits);
-    if (before == 0)
+    if (before == NO_DECIMAL)
         return 9;
     for (i = 0; i + 1 < before; i++)
         if (value[i] != '0')
             return 10;
-    units = value[before - 1] - '0';
+    units = before == 0 ? 0 : value[before - 1] - '0';
     if (units == 0)
         return 0;
     for (i = before + 1; i < length; i++)
@@ -313,7 +315,7 @@ static unsigned right_ascension(const uint8_t *value, size_t length)
 {
     unsigned bits;
     size_t before = decimal(value, length, &bits);
-    if (before == 0 || before > 3 || length - before > 10)
+    if (before > 3 || length - before > 10)
         return 9;
     if ((value[0] == '0' && before > 1) || (before == 3 && value[0] > '3'))
         return 9;
@@ -327,7 +329,7 @@ static unsigned declination(const uint8_t *value, size_t length)
     value += sign;
     length -= sign;
     before = decimal(value, length, &bits);
-    if (before == 0 || before > 2 || length - before > 10 || (value[0] == '0' && before > 1))
+    if (before > 2 || length - before > 10 || (value[0] == '0' && before > 1))
         return 9;
     degrees = number(value, before);
     if (degrees < 90)
