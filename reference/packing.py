@@ -92,8 +92,9 @@ def bare_points(chance):
         (b"12", b"-.5", b"12"), (b"12.", b"-0.5", b"12."), (b"12.0", b"90.", b"12.0"), (b".5", b"90", b"+12."))]
     for report in (SPELT, block(rows, list(ELEMENTS), chance), b"".join(block([each]) for each in rows)):
         assert ades.pack(report, len(SPELT)) == ("packed", SPELT)
+        yield from pack_cases(chance, report)
         assert ades.pack(report, len(SPELT) - 1) == ades.refused(15, 0, 0)
-        yield from pack_cases(chance, report, 3)
+        yield to_pack(report, len(SPELT) - 1, chance.randrange(256))
     for name in ("pos1", "pos2", "pos3", "mag"):
         yield from pack_cases(chance, random_layout(chance, [row_with(name, text) for text in SPELLINGS]), 2)
     for name in ("rmsTime", "rmsRA", "rmsDec", "rmsMag", "photAp"):

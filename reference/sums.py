@@ -46,9 +46,10 @@ def sums_of_decimals():
         assert fault("mag", alone) == fault("dec", alone) == fault("ra", alone) == fault("rmsMag", alone) == 9
     assert fault("mag", b"123456") == fault("mag", b"12345.") == fault("mag", b".12345") == 0
     assert fault("mag", b"123456.") == fault("mag", b".123456") == 8
+    assert fault("rmsMag", b"123456") == 0 and fault("rmsMag", b"123456.") == fault("rmsMag", b".123456") == 8
     assert fault("rmsMag", b"0.") == fault("rmsMag", b".0") == 10 and worth("rmsMag", b".1") == ("decimal", 1, 1)
     assert worth("ra", b".5") == ("angle", 500_000_000) and worth("ra", b"12.") == ("angle", 12_000_000_000)
-    assert fault("ra", b"360.") == 10 and fault("ra", b"00.") == 9
+    assert fault("ra", b"360.") == 10 and fault("ra", b"00.") == fault("ra", b".9999999999") == 9
     assert worth("dec", b"-.5") == ("angle", -500_000_000) and worth("dec", b"90.") == ("angle", 90_000_000_000)
     assert worth("rmsCorr", b"-1.") == ("decimal", -1, 0) and fault("rmsCorr", b"2.") == 10
     assert fault("ctr", b"301.") == fault("ctr", b".5") == fault("obsTime", b"2024-03-01T04:05:06.Z") == 9
