@@ -33,7 +33,7 @@ import refusals
 import sums
 
 HEADER_LENGTH = 60
-LONGEST_FILE = 3_000_000
+LONGEST_FILE = 3_500_000
 LETTERS = "CSVPNLR"
 
 
