@@ -39,7 +39,7 @@ in-range false range value e = never e
 abbrev inWidth : Bool → Bool → Bool → Value → Value
 inWidth wide form range value = cond wide (Bad TooWide) (inRange form range value)
 
-in-width : (wide form range : Bool) (value : Value) → isFine (lessValue (inWidth wide form range value)) ≡ true
+pub in-width : (wide form range : Bool) (value : Value) → isFine (lessValue (inWidth wide form range value)) ≡ true
     → (wide ≡ false) × (form ≡ true) × (range ≡ true)
 in-width true form range value e = never e
 in-width false form range value e = let right = in-range form range value e in (refl, right .0, right .1)

@@ -1,7 +1,7 @@
 -- How large the value of a decimal of a width can be: its bare point is counted, so its places are fewer than its width.
 use Prim.Native.Nat.{ℕ, zero, suc, _-_, _^_, _≤_, _<_}
 use mathlib.Core.Path.{_≡_, refl, ap, _∙_}
-use mathlib.Core.Bool.{Bool, true, false, cond}
+use mathlib.Core.Bool.{Bool, true, false}
 use mathlib.Core.List.{List}
 use native.Mathlib.Omega.{arith}
 use lib.Dec.{ltb}
@@ -14,12 +14,13 @@ use Rattle.text.specs.declared.class.Class.the-variants.{Digit}
 use Rattle.text.proofs.Bools.{bools, both, neither}
 use Rattle.text.proofs.Classes.{leading-le}
 use Rattle.text.proofs.Numbers.{number-small}
-use Rattle.refusal.specs.declared.Kind.the-variants.{TooWide, WrongForm, OutOfRange}
+use Rattle.value.specs.Check.{lessValue, isFine}
 use Rattle.value.specs.Decimal.{isPointed, isDecimal, places, isTooWide, Range, isWithin, decimalOf, decimalIn}
 use Rattle.value.specs.Numeral.{digits, isDigits}
 use Rattle.value.specs.Sign.{isMinus, bare, withSign}
 use Rattle.value.specs.declared.Value.{Value}
-use Rattle.value.specs.declared.Value.the-variants.{Bad, Decimal}
+use Rattle.value.specs.declared.Value.the-variants.{Decimal}
+use Rattle.value.proofs.Checks.{in-width}
 
 -- A decimal has a byte.
 decimal-some : (s : List ℕ) → isDecimal s ≡ true → 0 < length s
@@ -36,23 +37,15 @@ sign-size true zero = refl
 sign-size true (suc n) = refl
 sign-size false n = refl
 
--- A value that passed three tests.
-passed : (wide form range : Bool) (value : Value) (whole : ℤ) (count : ℕ)
-    → cond wide (Bad TooWide) (cond form (cond range value (Bad OutOfRange)) (Bad WrongForm)) ≡ Decimal whole count
-    → (wide ≡ false) × (form ≡ true) × (value ≡ Decimal whole count)
-passed true form range value whole count e = absurd (let z : _≡_ {A = ℕ} 0 1 = cc in omega arith)
-passed false false range value whole count e = absurd (let z : _≡_ {A = ℕ} 0 1 = cc in omega arith)
-passed false true false value whole count e = absurd (let z : _≡_ {A = ℕ} 0 1 = cc in omega arith)
-passed false true true value whole count e = (refl, refl, e)
-
 -- The whole number of a decimal has at most as many digits as its width, and its places are fewer.
 pub decimal-held : (range : Range) (width : ℕ) (signed : Bool) (text : List ℕ) (whole : ℤ) (count : ℕ)
     → decimalIn range width signed text ≡ Decimal whole count → (natAbs whole < 10 ^ width) × (count < width)
 unfolding decimalIn isTooWide places
 decimal-held range width signed text whole count e =
     let rest = bare signed text in
-    let p = passed (isTooWide width rest) (isDecimal rest) (isWithin range (number 0 rest) (places rest)) (decimalOf text rest) whole count e in
-    let told = p .2 in
+    let within = isWithin range (number 0 rest) (places rest) in
+    let p = in-width (isTooWide width rest) (isDecimal rest) within (decimalOf text rest) (ap (λ (v : Value). isFine (lessValue v)) e) in
+    let told : decimalOf text rest ≡ Decimal whole count = rw (p .0, p .1, p .2) at e in
     let few : length rest ≤ width = ltb-false width (length rest) (neither (ltb width (length rest)) (ltb 18 (length rest)) (p .0) .0) in
     let size : natAbs whole ≡ number 0 rest = ap natAbs (let z : whole ≡ withSign (isMinus text) (number 0 rest) = cc in z) ∙ sign-size (isMinus text) (number 0 rest) in
     let least : count ≡ length rest - digits rest - 1 = cc in
