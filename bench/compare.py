@@ -253,7 +253,7 @@ def compare_chance(functions, count):
         report = damage.random_report(chance, 12) if chance.random() < 0.3 else damage.random_damaged(chance, 3)
         compare_check(functions, report)
         compare_pack(functions, report, chance.choice((0, len(report) // 2, len(report), 4000)), chance.randrange(256))
-        compare_request(functions, report, chance.randrange(14), chance.randrange(31))
+        compare_request(functions, report, chance.randrange(14), chance.randrange(len(ades.ELEMENTS) + 2))
         compare_nights(functions, chance, report)
         accepted += not ades.is_refused(ades.check(report))
     return accepted

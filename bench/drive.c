@@ -5,8 +5,8 @@
  *     drive REPORT CALL               one call only, to count its instructions: the function of that name in the table; after it
  *                                     comes the function finished
  *
- * Beside checking and packing the calls write the night list's record of the first and of the last observation, check a list of
- * 256 records and read its last one.
+ * Beside checking and packing the calls write the night list's record of the first and of the last observation, which is refused
+ * where that is a radar one, check a list of 256 records and read its last one.
  *
  * Declares the few functions of the C library that it needs, so that it can be built where only the linker's libraries of
  * x86-64 are. */
@@ -147,10 +147,12 @@ static int compare(void)
     return !same;
 }
 
-/* Makes a list of 256 records and one more: the first observation's, each with its own number. */
+/* Makes a list of 256 records and one more: the specimen's, each with its own number. */
 static void make_list(void)
 {
-    plain_night_write(report, length, 1, list, LIST);
+    static const char specimen[] = "# version=2022\ntrkSub|mode|stn|obsTime|ra|dec|astCat\n"
+        "a1|CCD|W84|2024-03-01T04:05:06.5Z|10.5|-0.25|Gaia2\n";
+    plain_night_write((const uint8_t *)specimen, sizeof specimen - 1, 1, list, LIST);
     for (size_t record = 1; record <= RECORDS; record++) {
         memcpy(list + RECORD * record, list, RECORD);
         list[RECORD * record] = (uint8_t)record;

@@ -1,18 +1,18 @@
 /* Checking and packing of ADES reports and the night list in plain C, written for speed and not proved:
  * the measure for the proved code. The report is read once, eight bytes at a time; where each value lies
- * is kept; the cuts are searched over runs of rows with the same elements. Needs gcc or clang. No memory
- * is allocated; packing uses about 43 kB of stack. */
+ * is kept; the cuts are searched over runs of rows with the same elements, in each stretch of one kind.
+ * Needs gcc or clang. No memory is allocated; packing uses about 52 kB of stack. */
 
 #include "plain.h"
 
 #include <string.h>
 
-enum { TEXT_LIMIT = 65536, ROW_LIMIT = 256, ELEMENTS = 29, VERSION_LENGTH = 14, RECORD_LENGTH = 40 };
+enum { TEXT_LIMIT = 65536, ROW_LIMIT = 256, ELEMENTS = 37, VERSION_LENGTH = 14, RECORD_LENGTH = 40 };
 
 enum {
     PERM_ID = 1, PROV_ID, ART_SAT, TRK_SUB, OBS_ID, OBS_SUB_ID, MODE, STN, SYS, CTR, POS1, POS2, POS3, PROG,
     OBS_TIME, RMS_TIME, RA, DEC, RMS_RA, RMS_DEC, RMS_CORR, AST_CAT, MAG, RMS_MAG, BAND, PHOT_CAT, PHOT_AP,
-    NOTES, REMARKS
+    NOTES, REMARKS, TRX, RCV, DELAY, RMS_DELAY, DOPPLER, RMS_DOPPLER, FRQ, COM
 };
 
 /* A set of elements: bit e stands for element e. */
@@ -22,33 +22,49 @@ enum {
 #define LOCATION (ONE(SYS) | ONE(CTR) | ONE(POS1) | ONE(POS2) | ONE(POS3))
 #define PHOTOMETRY (ONE(MAG) | ONE(RMS_MAG) | ONE(BAND) | ONE(PHOT_CAT) | ONE(PHOT_AP))
 
+#define DELAY_PAIR (ONE(DELAY) | ONE(RMS_DELAY))
+#define DOPPLER_PAIR (ONE(DOPPLER) | ONE(RMS_DOPPLER))
+/* An observation with one of these is a radar one, any other an optical one. */
+#define RADAR (ONE(TRX) | ONE(RCV) | DELAY_PAIR | DOPPLER_PAIR | ONE(FRQ) | ONE(COM))
+#define RADAR_IDENTIFICATION (ONE(PERM_ID) | ONE(PROV_ID))
+#define RADAR_NEEDED (ONE(OBS_TIME) | ONE(TRX) | ONE(RCV) | ONE(FRQ) | ONE(COM))
+#define FOREIGN_TO_RADAR (ONE(ART_SAT) | ONE(TRK_SUB) | ONE(MODE) | ONE(STN) | LOCATION | ONE(RMS_TIME) | ONE(RA) \
+    | ONE(DEC) | ONE(RMS_RA) | ONE(RMS_DEC) | ONE(RMS_CORR) | ONE(AST_CAT) | PHOTOMETRY)
+
 static const char version_line[] = "# version=2022\n";
 
-static const char names[ELEMENTS + 1][9] = {
+/* Each with zeros after it, so that sixteen bytes can be copied. */
+static const char names[ELEMENTS + 1][16] = {
     "", "permID", "provID", "artSat", "trkSub", "obsID", "obsSubID", "mode", "stn", "sys", "ctr", "pos1", "pos2",
     "pos3", "prog", "obsTime", "rmsTime", "ra", "dec", "rmsRA", "rmsDec", "rmsCorr", "astCat", "mag", "rmsMag",
-    "band", "photCat", "photAp", "notes", "remarks"
+    "band", "photCat", "photAp", "notes", "remarks", "trx", "rcv", "delay", "rmsDelay", "doppler", "rmsDoppler", "frq",
+    "com"
 };
 
 static const uint8_t name_lengths[ELEMENTS + 1] = {
-    0, 6, 6, 6, 6, 5, 8, 4, 3, 3, 3, 4, 4, 4, 4, 7, 7, 2, 3, 5, 6, 7, 6, 3, 6, 4, 7, 6, 5, 7
+    0, 6, 6, 6, 6, 5, 8, 4, 3, 3, 3, 4, 4, 4, 4, 7, 7, 2, 3, 5, 6, 7, 6, 3, 6, 4, 7, 6, 5, 7, 3, 3, 5,
+    8, 7, 10, 3, 3
 };
 
 /* The shortest and longest value of an alphanumeric, the longest of a free value, a decimal's width. */
 static const uint16_t shortest[ELEMENTS + 1] = { [TRK_SUB] = 1, [OBS_ID] = 1, [STN] = 3, [PROG] = 1, [AST_CAT] = 1,
-    [BAND] = 1, [PHOT_CAT] = 1, [NOTES] = 1 };
+    [BAND] = 1, [PHOT_CAT] = 1, [NOTES] = 1, [TRX] = 3, [RCV] = 3 };
 static const uint16_t longest[ELEMENTS + 1] = { [TRK_SUB] = 8, [OBS_ID] = 25, [OBS_SUB_ID] = 25, [STN] = 4,
     [CTR] = 9, [POS1] = 13, [POS2] = 13, [POS3] = 13, [PROG] = 2, [RMS_TIME] = 8, [RMS_RA] = 7, [RMS_DEC] = 7,
     [RMS_CORR] = 13, [AST_CAT] = 8, [MAG] = 6, [RMS_MAG] = 6, [BAND] = 3, [PHOT_CAT] = 8, [PHOT_AP] = 6, [NOTES] = 6,
-    [REMARKS] = 300 };
+    [REMARKS] = 300, [TRX] = 4, [RCV] = 4, [DELAY] = 14, [RMS_DELAY] = 6, [DOPPLER] = 14, [RMS_DOPPLER] = 6,
+    [FRQ] = 14 };
 
-/* Each name falls into a slot of its own: the top six bits of its word times this multiplier, which was
- * found by trying. */
-#define NAME_MULTIPLIER UINT64_C(0x24137bacdfd810d1)
+/* Each name of at most eight bytes falls into a slot of its own: the top six bits of its word times this
+ * multiplier, which was found by trying. Only rmsDoppler is longer. */
+#define NAME_MULTIPLIER UINT64_C(0x8316a90663e3a911)
 static const uint8_t name_slots[64] = {
-    0, 27, 6, 0, 0, 16, 0, 0, 19, 3, 0, 8, 0, 0, 13, 0, 0, 0, 0, 0, 7, 0, 0, 1, 0, 0, 5, 22, 17, 29, 0, 0,
-    23, 0, 0, 12, 0, 0, 18, 0, 14, 0, 24, 0, 0, 20, 26, 28, 0, 4, 0, 0, 15, 0, 10, 25, 11, 0, 0, 21, 0, 0, 9, 2
+    4, 34, 6, 31, 0, 32, 20, 22, 28, 15, 0, 7, 33, 0, 10, 1, 0, 0, 29, 14, 24, 11, 12, 19, 13, 0, 23, 3, 0, 0, 0, 37,
+    18, 9, 0, 0, 0, 0, 21, 0, 2, 16, 0, 0, 0, 27, 30, 0, 26, 0, 8, 5, 0, 0, 0, 0, 0, 25, 0, 36, 0, 17, 0, 0
 };
+
+static inline unsigned lowest(uint64_t set) { return (unsigned)__builtin_ctzll(set); }
+static inline int is_radar(uint64_t set) { return (set & RADAR) != 0; }
 
 /* ---- eight bytes at a time */
 
@@ -367,6 +383,12 @@ static unsigned time_of_day(const uint8_t *value, size_t length)
     return 0;
 }
 
+/* 0 or 1. */
+static unsigned flag(const uint8_t *value, size_t length)
+{
+    return length == 1 && (value[0] == '0' || value[0] == '1') ? 0 : 10;
+}
+
 /* The fault of one value, which is not empty. */
 static inline unsigned fault_of(unsigned element, const uint8_t *value, size_t length)
 {
@@ -381,8 +403,10 @@ static inline unsigned fault_of(unsigned element, const uint8_t *value, size_t l
     case RA: return right_ascension(value, length);
     case DEC: return declination(value, length);
     case RMS_CORR: return correlation(value, length);
-    case POS1: case POS2: case POS3: case MAG: return signed_decimal(value, length, longest[element]);
-    case RMS_TIME: case RMS_RA: case RMS_DEC: case RMS_MAG: case PHOT_AP:
+    case COM: return flag(value, length);
+    case POS1: case POS2: case POS3: case MAG: case DOPPLER: return signed_decimal(value, length, longest[element]);
+    case RMS_TIME: case RMS_RA: case RMS_DEC: case RMS_MAG: case PHOT_AP: case DELAY: case RMS_DELAY: case RMS_DOPPLER:
+    case FRQ:
         return positive(value, length, longest[element]);
     case OBS_SUB_ID: case REMARKS: return length > longest[element] ? 8 : 0;
     default: return alphanumeric(value, length, shortest[element], longest[element]);
@@ -405,13 +429,14 @@ typedef struct {
 } kept;
 
 /* The observation of that number alone. */
-typedef struct { uint64_t number; uint32_t values[ELEMENTS + 1]; } single;
+typedef struct { uint64_t number, set; uint32_t values[ELEMENTS + 1]; } single;
 
 typedef struct { uint32_t refused, line, place, observations; } outcome;
 
-/* One line parted at its bars: ends[f] is where field f ends. Of more than 32 fields only the first
- * ones are noted, which is enough: the 30th column name must be unknown or a repetition. */
-typedef struct { size_t end; uint32_t fields; uint32_t ends[33]; } line;
+/* One line parted at its bars: ends[f] is where field f ends. Of more fields than are noted only the first
+ * ones are, which is enough: the 38th column name must be unknown or a repetition. */
+enum { NOTED = ELEMENTS + 1 };
+typedef struct { size_t end; uint32_t fields; uint32_t ends[NOTED + 1]; } line;
 
 /* Finds the line's end and its fields. 0, or 2 for no LF, or 3 for a byte outside 0x20 to 0x7E. */
 static inline unsigned part(const uint8_t *report, size_t length, size_t start, line *found)
@@ -423,7 +448,7 @@ static inline unsigned part(const uint8_t *report, size_t length, size_t start, 
             size_t place = at + ((unsigned)__builtin_ctzll(marks) >> 3);
             if (place == length)
                 return 2;
-            found->ends[fields < 32 ? fields : 32] = (uint32_t)place;
+            found->ends[fields < NOTED ? fields : NOTED] = (uint32_t)place;
             fields++;
             if (report[place] == '|')
                 continue;
@@ -443,7 +468,7 @@ static inline unsigned element_of(const uint8_t *name, size_t length, size_t rea
     uint64_t word;
     unsigned element;
     if (length > 8)
-        return 0;
+        return length == name_lengths[RMS_DOPPLER] && !memcmp(name, names[RMS_DOPPLER], length) ? RMS_DOPPLER : 0;
     if (length == 8)
         word = load(name);
     else
@@ -452,7 +477,11 @@ static inline unsigned element_of(const uint8_t *name, size_t length, size_t rea
     return load((const uint8_t *)names[element]) == word ? element : 0;
 }
 
-typedef struct { uint64_t set; uint32_t count; int in_order; uint8_t elements[ELEMENTS]; } column_list;
+/* The kinds of rows that a block may hold: optical ones alone where no column is radar's; else any until
+ * the first row settles it. */
+enum { NO_RADAR_COLUMNS, ANY_ROWS, OPTICAL_ROWS, RADAR_ROWS };
+
+typedef struct { uint64_t set; uint32_t count; int in_order, kind; uint8_t elements[ELEMENTS]; } column_list;
 
 /* Reads a column line; 0, or 6 or 7 at the place. */
 static unsigned read_columns(const uint8_t *report, size_t length, size_t start, const line *found,
@@ -481,13 +510,36 @@ static unsigned read_columns(const uint8_t *report, size_t length, size_t start,
         columns->in_order &= element > before;
         before = element;
     }
+    columns->kind = is_radar(columns->set) ? ANY_ROWS : NO_RADAR_COLUMNS;
     return 0;
 }
 
-static inline unsigned lowest(uint64_t set) { return (unsigned)__builtin_ctzll(set); }
+/* What one radar observation must hold and what is foreign to it; 0, or 11 or 22 at the place. */
+static unsigned radar_lack(uint64_t set, uint32_t *place)
+{
+    int doppler = (set & ONE(DOPPLER)) != 0;
+    uint64_t foreign = set & (FOREIGN_TO_RADAR | (doppler ? DELAY_PAIR : DOPPLER_PAIR));
+    uint64_t missing = (RADAR_NEEDED | (doppler ? DOPPLER_PAIR : DELAY_PAIR)) & ~set;
+    if (foreign) {
+        *place = lowest(foreign);
+        return 22;
+    }
+    if (!(set & RADAR_IDENTIFICATION)) {
+        *place = 1;
+        return 11;
+    }
+    if (!missing)
+        return 0;
+    *place = lowest(missing);
+    return 11;
+}
 
-/* What one observation must hold; 0, or 11 or 12 at the place. */
-static inline unsigned lack(uint64_t set, uint32_t *place)
+/* Marks beside the elements of a row: its sys is WGS84, its ctr is not 399. */
+enum { WGS84 = ELEMENTS + 1, OTHER_CENTRE };
+#define EARTH (ONE(WGS84) | ONE(OTHER_CENTRE))
+
+/* What one optical observation must hold, its centre among it; 0, or 11 to 13 at the place. */
+static inline unsigned optical_lack(uint64_t set, uint32_t *place)
 {
     uint64_t missing;
     if (!(set & IDENTIFICATION)) {
@@ -503,19 +555,34 @@ static inline unsigned lack(uint64_t set, uint32_t *place)
         missing = (ONE(MAG) | ONE(BAND)) & ~set;
     if (!missing && set & ONE(RMS_CORR))
         missing = (ONE(RMS_RA) | ONE(RMS_DEC)) & ~set;
-    if (!missing)
+    if (missing) {
+        *place = lowest(missing);
+        return 12;
+    }
+    if ((set & EARTH) != EARTH)
         return 0;
-    *place = lowest(missing);
-    return 12;
+    *place = CTR;
+    return 13;
 }
 
-/* Reads a data line of the right number of fields; 0, or 8 to 13 at the place. */
-static inline unsigned read_row(const uint8_t *report, size_t start, const line *found, const column_list *columns,
+/* What one observation of a block with radar columns must hold by its kind, which the block's first row
+ * settles for the others; 0, or 11 to 13, 21 or 22 at the place. */
+static __attribute__((noinline)) unsigned lack(uint64_t set, column_list *columns, uint32_t *place)
+{
+    int kind = is_radar(set) ? RADAR_ROWS : OPTICAL_ROWS;
+    unsigned refused = kind == RADAR_ROWS ? radar_lack(set, place) : optical_lack(set, place);
+    if (refused)
+        return refused;
+    if (columns->kind == ANY_ROWS)
+        columns->kind = kind;
+    return columns->kind == kind ? 0 : 21;
+}
+
+/* Reads a data line of the right number of fields; 0, or 8 to 13, 21 or 22 at the place. */
+static inline unsigned read_row(const uint8_t *report, size_t start, const line *found, column_list *columns,
                                 uint32_t *place, uint64_t *set, int *padded, uint32_t *contents, uint32_t *values)
 {
-    int wrong_centre = 0, placed = 0;
-    unsigned refused;
-    *set = 0;
+    uint64_t present = 0;
     *padded = 0;
     for (uint32_t field = 0; field < columns->count; field++) {
         size_t end = found->ends[field], at = start;
@@ -536,25 +603,24 @@ static inline unsigned read_row(const uint8_t *report, size_t start, const line 
             *place = field + 1;
             return fault;
         }
-        *set |= ONE(element);
-        if (element == SYS)
-            placed = is_wgs84(report + at, end - at);
-        if (element == CTR)
-            wrong_centre = end - at != 3 || memcmp(report + at, "399", 3) != 0;
+        present |= ONE(element);
+        if (element == SYS && is_wgs84(report + at, end - at))
+            present |= ONE(WGS84);
+        if (element == CTR && (end - at != 3 || memcmp(report + at, "399", 3)))
+            present |= ONE(OTHER_CENTRE);
         if (values) {
             values[element] = (uint32_t)(at << 9 | (end - at));
             *contents += (uint32_t)(end - at) + 1;
         }
     }
-    refused = lack(*set, place);
-    if (!refused && placed && wrong_centre) {
-        *place = CTR;
-        return 13;
-    }
-    return refused;
+    *set = present & ~EARTH;
+    return columns->kind == NO_RADAR_COLUMNS ? optical_lack(present, place) : lack(present, columns, place);
 }
 
 enum { VERSION_DUE, COLUMNS_DUE, FIRST_ROW_DUE, ROW_DUE };
+
+/* A fault of a line that has a place in it. */
+static inline int is_placed(uint32_t refused) { return (refused >= 6 && refused <= 13) || refused == 22; }
 
 /* Reads the whole report, and keeps where the values lie: all of them unless table is null, those of one
  * observation unless that is null. */
@@ -594,6 +660,8 @@ static inline __attribute__((always_inline)) outcome read_report(const uint8_t *
             if (one && one->number == result.observations + UINT64_C(1))
                 values = one->values;
             result.refused = read_row(report, start, &found, &columns, &result.place, &set, &padded, &contents, values);
+            if (one && values && !result.refused)
+                one->set = set;
             if (table && !result.refused) {
                 row *each = &table->rows[result.observations];
                 each->set = set;
@@ -610,7 +678,7 @@ static inline __attribute__((always_inline)) outcome read_report(const uint8_t *
         result.refused = 5;
         result.line++;
     }
-    if (result.refused && (result.refused < 6 || result.refused > 13))
+    if (!is_placed(result.refused))
         result.place = 0;
     return result;
 }
@@ -659,17 +727,17 @@ static uint32_t runs_of(const row *rows, uint32_t count, run *runs)
     return made;
 }
 
-/* The shortest cutting from each run on; of equals the one whose first block is longest. What is
- * counted for a block is what it costs beyond its rows' own values and one byte for each. That grows
- * with the block, so a block that alone costs more than the best needs no further look. */
-static void search(const run *runs, uint32_t count, best *bests)
+/* The shortest cutting of a stretch from each of its runs on; of equals the one whose first block is
+ * longest. What is counted for a block is what it costs beyond its rows' own values and one byte for
+ * each. That grows with the block, so a block that alone costs more than the best needs no further look. */
+static void search(const run *runs, uint32_t start, uint32_t end, best *bests)
 {
-    bests[count] = (best){ 0, 0 };
-    for (uint32_t first = count; first-- > 0;) {
+    bests[end] = (best){ 0, 0 };
+    for (uint32_t first = end; first-- > start;) {
         uint64_t set = 0;
         uint32_t names_and_line = 15, columns = 0, rows = 0, own = 0;
         best chosen = { UINT32_MAX, first };
-        for (uint32_t last = first; last < count; last++) {
+        for (uint32_t last = first; last < end; last++) {
             uint64_t fresh = runs[last].set & ~set;
             uint32_t block;
             if (fresh) {
@@ -689,6 +757,23 @@ static void search(const run *runs, uint32_t count, best *bests)
     }
 }
 
+/* The shortest cutting of all runs into blocks of one kind each: stretch by stretch, since a cut stands
+ * wherever the kind changes. Gives the bytes of all stretches together. */
+static uint32_t search_stretches(const run *runs, uint32_t count, best *bests)
+{
+    uint32_t bytes = 0, start = 0;
+    while (start < count) {
+        int radar = is_radar(runs[start].set);
+        uint32_t end = start + 1;
+        while (end < count && is_radar(runs[end].set) == radar)
+            end++;
+        search(runs, start, end, bests);
+        bytes += bests[start].least;
+        start = end;
+    }
+    return bytes;
+}
+
 /* ---- writing */
 
 /* Where the next byte goes and where the packed report will end, and the report's end. Copies of
@@ -704,13 +789,14 @@ static inline void copy(writer *out, const uint8_t *value, size_t length)
     out->at += length;
 }
 
+/* A name's sixteen bytes never run past the end: a row follows, and its obsTime alone has more. */
 static void write_columns(writer *out, uint64_t set)
 {
     memcpy(out->at, version_line, VERSION_LENGTH + 1);
     out->at += VERSION_LENGTH + 1;
     for (; set; set &= set - 1) {
         unsigned element = lowest(set);
-        memcpy(out->at, names[element], name_lengths[element]);
+        memcpy(out->at, names[element], 16);
         out->at += name_lengths[element];
         *out->at++ = '|';
     }
@@ -768,8 +854,7 @@ plain_packed plain_pack(const uint8_t *report, size_t length, uint8_t *output, s
     if (read.observations == 0)
         return answer;
     count = runs_of(table.rows, read.observations, runs);
-    search(runs, count, bests);
-    total = table.contents + bests[0].least;
+    total = table.contents + search_stretches(runs, count, bests);
     if (total > output_length) {
         answer.refused = 15;
         return answer;
@@ -857,6 +942,8 @@ plain_done plain_night_write(const uint8_t *report, size_t length, uint64_t obse
         return (plain_done){ read.refused, read.line, read.place };
     if (observation == 0 || observation > read.observations)
         return (plain_done){ 16, 0, 0 };
+    if (is_radar(asked.set))
+        return (plain_done){ 23, 0, 0 };
     if (list_length / RECORD_LENGTH < observation)
         return (plain_done){ 19, 0, 0 };
     write_record(list + RECORD_LENGTH * (observation - 1), report, observation - 1, asked.values);

@@ -22,7 +22,7 @@ plain_checked plain_check(const uint8_t *report, size_t length);
 /* The output must not overlap the report. */
 plain_packed plain_pack(const uint8_t *report, size_t length, uint8_t *output, size_t output_length);
 
-/* The list must not overlap the report. */
+/* The list must not overlap the report. 23 for a radar observation. */
 plain_done plain_night_write(const uint8_t *report, size_t length, uint64_t observation, uint8_t *list,
                              size_t list_length);
 plain_night_checked plain_night_check(const uint8_t *list, size_t length);

@@ -20,13 +20,13 @@ USUAL = {"permID": 7, "provID": 11, "trkSub": 8, "mode": 4, "stn": 4, "obsTime":
 # Elements that any observation may have or not have: eight of them make 256 sets.
 FREE_TO_CHOOSE = ("obsID", "obsSubID", "prog", "rmsTime", "rmsRA", "rmsDec", "notes", "remarks")
 
-# Every element but artSat, whose values say nothing that the others do not.
+# Every element of an optical observation but artSat, whose values say nothing that the others do not.
 NEARLY_ALL = ("permID provID trkSub obsID obsSubID mode stn sys ctr pos1 pos2 pos3 prog obsTime rmsTime ra dec rmsRA "
               "rmsDec rmsCorr astCat mag rmsMag band photCat photAp notes remarks").split()
 
 
 def observation(number):
-    """A value for every element of a moving object's observation of that number."""
+    """A value for every element of a moving object's optical observation of that number."""
     seconds = 4 * 3_600 + 15 * number
     clock = f"{seconds // 3_600:02}:{seconds // 60 % 60:02}:{seconds % 60:02}"
     return {
@@ -38,6 +38,15 @@ def observation(number):
         "rmsRA": "0.12", "rmsDec": f"0.{11 + number % 30}", "rmsCorr": "-0.05", "astCat": "Gaia2",
         "mag": f"{18 + number % 3}.{number % 10}", "rmsMag": "0.1", "band": "G", "photCat": "Gaia2", "photAp": "5.6",
         "notes": "K", "remarks": f"frame {number}"}
+
+
+def radar_observation(number):
+    """A value for every element of a radar observation of that number, of its delay as of its Doppler shift."""
+    row = only(observation(number), ("permID", "provID", "obsID", "prog", "obsTime", "notes", "remarks"))
+    return row | {
+        "trx": "251", "rcv": "257" if number % 5 == 0 else "251", "delay": f"{20 + number // 7}.{37 * number:08}",
+        "rmsDelay": f"0.{1 + number % 9}5", "doppler": f"{'-' if number % 2 else ''}{1_000 + 13 * number}.{number:04}",
+        "rmsDoppler": f"0.{2 + number % 7}", "frq": "2380", "com": str(number % 2)}
 
 
 def line(row, columns):
@@ -56,6 +65,11 @@ def only(row, names):
 
 
 PLAIN = "trkSub mode stn obsTime ra dec astCat".split()
+
+# The columns of a radar row with its delay, of one with its Doppler shift, and of both in one block.
+DELAY = "permID obsTime trx rcv delay rmsDelay frq com".split()
+DOPPLER = "permID obsTime trx rcv doppler rmsDoppler frq com".split()
+RADAR = "permID obsTime trx rcv delay rmsDelay doppler rmsDoppler frq com".split()
 
 
 def one_row():
@@ -101,7 +115,7 @@ def long_remarks():
 
 
 def two_kinds():
-    """Two kinds of rows in turn."""
+    """Two kinds of optical rows in turn."""
     columns = PLAIN + ["mag", "rmsMag", "band", "remarks"]
     kinds = (PLAIN, columns)
     return block(columns, [line(only(observation(number), kinds[number % 2]), columns) for number in range(ROW_LIMIT)])
@@ -127,9 +141,26 @@ def whole_text():
     return block(columns, [line(row, columns) for row in rows])
 
 
+def radar_rows():
+    """256 radar rows: eight with their delay and eight with their Doppler shift in turn."""
+    measured = (DELAY, DOPPLER)
+    rows = [only(radar_observation(number), measured[number // 8 % 2]) for number in range(ROW_LIMIT)]
+    return block(RADAR, [line(row, RADAR) for row in rows])
+
+
+def mixed_kinds():
+    """Optical and radar rows in turn, each in a block of its own; every second radar row has its Doppler shift."""
+    blocks = []
+    for number in range(0, ROW_LIMIT, 2):
+        columns = (DELAY, DOPPLER)[number // 2 % 2]
+        blocks.append(block(PLAIN, [line(observation(number), PLAIN)]))
+        blocks.append(block(columns, [line(radar_observation(number + 1), columns)]))
+    return "".join(blocks)
+
+
 SHAPES = {"one-row": one_row, "plain-rows": plain_rows, "padded-rows": padded_rows,
           "nearly-all-columns": nearly_all_columns, "long-remarks": long_remarks, "two-kinds": two_kinds,
-          "own-sets": own_sets, "whole-text": whole_text}
+          "own-sets": own_sets, "whole-text": whole_text, "radar-rows": radar_rows, "mixed-kinds": mixed_kinds}
 
 
 def main(folder):

@@ -4,8 +4,8 @@
  *
  * calls each function on a painted stack of its own, and prints for each report the most bytes of it that a call changed: on the
  * report whole, cut off at 64 places and with one byte changed at 64 places; show and value of each element; pack and the night
- * list's writing also into no output; the list that a report writes whole, cut off and changed in the same way. Counted from the
- * return address that the call pushes down to the lowest byte that changed.
+ * list's writing also into no output; the list that a report writes, up to its first radar observation, whole, cut off and changed
+ * in the same way. Counted from the return address that the call pushes down to the lowest byte that changed.
  *
  * For x86-64, by its calling convention. Declares the few functions of the C library that it needs, as drive.c does. */
 
@@ -109,21 +109,23 @@ static void try_report(void)
     }
 }
 
-/* The list that the report writes whole, for its first and last record and one past; cut off; with one byte changed. */
+/* The list that the report writes up to its first radar observation, for its first and last record and one past; cut off; with one
+ * byte changed. */
 static void try_list(void)
 {
-    uint64_t rows = kyrr_check(report, length).observations;
-    size_t bytes = RECORD * rows;
-    for (uint64_t record = 1; record <= rows; record++)
-        kyrr_night_write(report, length, record, list, LIST);
+    uint64_t records = 0;
+    size_t bytes;
+    while (kyrr_night_write(report, length, records + 1, list, LIST).refused == 0)
+        records++;
+    bytes = RECORD * records;
     try_list_calls(bytes, 1);
-    try_list_calls(bytes, rows);
-    try_list_calls(bytes, rows + 1);
+    try_list_calls(bytes, records);
+    try_list_calls(bytes, records + 1);
     for (size_t turn = 0; turn < PLACES; turn++) {
         size_t place = turn * bytes / PLACES;
         try_list_calls(place, 1);
         list[place] ^= 0x81;
-        try_list_calls(bytes, rows);
+        try_list_calls(bytes, records);
         list[place] ^= 0x81;
     }
 }

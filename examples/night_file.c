@@ -3,8 +3,9 @@
  *     night_file REPORT LIST
  *
  * prints `accepted N`, writes LIST, a record of 40 bytes for each observation, and prints a line for each record as it is read back
- * from the file; or prints `refused K line L place P` and writes nothing. Its exit status is 0 where the list was written and read
- * back, 1 where the report or the list was refused, 2 where a file could not be read or written. */
+ * from the file; or prints `refused K line L place P` and writes nothing, as for a report with a radar observation, which has no
+ * record (23). Its exit status is 0 where the list was written and read back, 1 where the report, an observation or the list was
+ * refused, 2 where a file could not be read or written. */
 #include <stdio.h>
 
 #include "kyrrbolda.h"
@@ -97,9 +98,9 @@ int main(int words, char **word)
     checked = kyrr_check(report, (size_t)length);
     if (checked.refused)
         return refuse(checked.refused, checked.line, checked.place);
-    printf("accepted %llu\n", (unsigned long long)checked.observations);
     if (write_records((size_t)length, checked.observations))
         return 1;
+    printf("accepted %llu\n", (unsigned long long)checked.observations);
     if (write_list(word[2], KYRR_RECORD_SIZE * (size_t)checked.observations)) {
         printf("error: %s can't be written\n", word[2]);
         return 2;

@@ -1,8 +1,8 @@
 /* kyrrbolda.h: the proved reporting box, as C and C++ see it.
  *
- * The library checks a report of ADES observations (pipe-separated text, edition 2022), shows and values each element, packs a
- * report into the shortest one that holds the same observations, writes and reads night lists, and names the elements.
- * docs/PROMISES.md says what is proved of each function.
+ * The library checks a report of ADES observations, optical and radar (pipe-separated text, edition 2022), shows and values each
+ * element, packs a report into the shortest one that holds the same observations, writes and reads night lists, and names the
+ * elements. docs/PROMISES.md says what is proved of each function.
  *
  * Link target/staticlib/libkyrrbolda.a, which `rt staticlib kyrrbolda` writes for x86-64.
  *
@@ -20,8 +20,8 @@
  *    the other fields are 0 and no lent byte has changed. Where it is not, `line` and `place` are 0. kyrr_name and kyrr_element
  *    refuse nothing: they answer 0 where there is no such element.
  *  - Lines, observations and records count from 1. `place` is the column's position from 1 for refusals 6 to 10, the element number
- *    for 11 to 13, the record's number for 20, and else 0. `line` is 0 for a fault of the whole text, of the request or of a list
- *    (1, 15, 16, 17, 19, 20).
+ *    for 11, 12, 13 and 22, the record's number for 20, and else 0. `line` is 0 for a fault of the whole text, of the request or of
+ *    a list (1, 15, 16, 17, 19, 20, 23).
  */
 #ifndef KYRRBOLDA_H
 #define KYRRBOLDA_H
@@ -41,17 +41,20 @@ extern "C" {
 #define KYRR_ROW_LIMIT 256
 
 /* The elements, numbered from 1 in this order: permID, provID, artSat, trkSub, obsID, obsSubID, mode, stn, sys, ctr, pos1, pos2,
- * pos3, prog, obsTime, rmsTime, ra, dec, rmsRA, rmsDec, rmsCorr, astCat, mag, rmsMag, band, photCat, photAp, notes, remarks.
- * kyrr_name gives these names, kyrr_element these numbers. */
-#define KYRR_ELEMENTS 29
+ * pos3, prog, obsTime, rmsTime, ra, dec, rmsRA, rmsDec, rmsCorr, astCat, mag, rmsMag, band, photCat, photAp, notes, remarks,
+ * trx, rcv, delay, rmsDelay, doppler, rmsDoppler, frq, com. kyrr_name gives these names, kyrr_element these numbers. An observation
+ * is radar where any of trx to com is present, and else optical. delay is in seconds, rmsDelay in microseconds, doppler and
+ * rmsDoppler in Hz, frq in MHz; com is 0 or 1, and has no value. */
+#define KYRR_ELEMENTS 37
 
 /* The bytes of the longest name of an element. */
-#define KYRR_NAME_LIMIT 8
+#define KYRR_NAME_LIMIT 10
 
 /* The bytes of a record of a night list. A list is records one after another, that of observation 1 first; it has no header and at
  * most KYRR_ROW_LIMIT records. In a record byte 0 is the observation's number less one; 1 to 3 are zero; 4 to 7 stn, a blank after
  * a three-letter one; 8 to 11 the day, 0 on 1858-11-17; 12 to 19 the microseconds of the day; 20 to 27 ra and 28 to 35 dec, in
- * units of 0.000000001 degree; 36 to 39 zero. Numbers stand low byte first, in two's complement. */
+ * units of 0.000000001 degree; 36 to 39 zero. Numbers stand low byte first, in two's complement. A radar observation has no
+ * record. */
 #define KYRR_RECORD_SIZE 40
 
 /* Why a call is refused: always the first fault, in the order of the rules. */
@@ -66,7 +69,8 @@ enum kyrr_refusal {
     KYRR_TOO_WIDE = 8,             /* a value is too wide */
     KYRR_WRONG_FORM = 9,           /* a value has the wrong form */
     KYRR_OUT_OF_RANGE = 10,        /* a value is out of its range or vocabulary */
-    KYRR_ELEMENT_MISSING = 11,     /* a needed element is missing; place 1 where permID, provID, artSat and trkSub all are */
+    KYRR_ELEMENT_MISSING = 11,     /* a needed element is missing; place 1 where permID, provID, artSat and trkSub all are, of a radar
+                                    * observation permID and provID; in a radar one 32 stands for delay and doppler, both missing */
     KYRR_GROUP_INCOMPLETE = 12,    /* a group is incomplete; place is its lowest missing element */
     KYRR_CENTRE_NOT_EARTH = 13,    /* sys is WGS84 and ctr is not 399 */
     KYRR_TOO_MANY_ROWS = 14,       /* the 257th data line */
@@ -75,7 +79,10 @@ enum kyrr_refusal {
     KYRR_NO_ELEMENT = 17,          /* no element has that number */
     KYRR_FIELD_COUNT_DIFFERS = 18, /* a data line has not as many fields as there are columns */
     KYRR_LIST_TOO_SHORT = 19,      /* the list has no room for the record at its place */
-    KYRR_BAD_RECORD = 20           /* no accepted observation at that place could have written the record */
+    KYRR_BAD_RECORD = 20,          /* no accepted observation at that place could have written the record */
+    KYRR_KINDS_MIXED = 21,         /* an observation of another kind, optical or radar, than those before it in its block */
+    KYRR_ELEMENT_FOREIGN = 22,     /* an element that is foreign to its radar observation; place is the lowest such element */
+    KYRR_NOT_OPTICAL = 23          /* a radar observation, which has no record in a night list */
 };
 
 /* What kind of value an element has. */
@@ -104,7 +111,7 @@ typedef struct { uint64_t refused, line, place, records; } kyrr_night_checked;
 /* The fields of a record: `number` is the observation's number, from 1; `station` bytes 4 to 7 as a number, low byte first. */
 typedef struct { uint64_t refused, line, place, number, station; int64_t day; uint64_t microseconds; int64_t ra, dec; } kyrr_night_record;
 
-/* Checks a report: how many observations it holds, or the first fault. Refusals 1 to 14 and 18. */
+/* Checks a report: how many observations it holds, or the first fault. Refusals 1 to 14, 18, 21 and 22. */
 kyrr_checked kyrr_check(const uint8_t *report, size_t report_length);
 
 /* Where the value of an element of an observation lies: the `length` bytes of the report from `start` on are the value as it was
@@ -120,7 +127,8 @@ kyrr_valued kyrr_value(const uint8_t *report, size_t report_length, uint64_t obs
 kyrr_packed kyrr_pack(const uint8_t *report, size_t report_length, uint8_t *output, size_t output_length);
 
 /* Writes the record of an observation over the 40 bytes at its place in the list; every other byte of the list stays as it was.
- * Refusals of kyrr_check; then 16; then 19, exactly where the list is shorter than 40 bytes for each observation up to that one. */
+ * Refusals of kyrr_check; then 16; then 23, exactly for a radar observation; then 19, exactly where the list is shorter than 40
+ * bytes for each observation up to that one. */
 kyrr_done kyrr_night_write(const uint8_t *report, size_t report_length, uint64_t observation, uint8_t *list, size_t list_length);
 
 /* Checks a list: how many records it has, or 20 at the first bad one. A record is bad exactly where no accepted observation at its

@@ -1,4 +1,5 @@
-"""The reference: what document 01 says of a report, of its elements and of packing, written for reading.
+"""The reference: what document 01 says of a report, of its elements and of packing, and document 02's order 3 of
+radar observations, written for reading.
 
 An answer is a tuple whose first member is a word. `read` gives
     ("accepted", observations, starts)   or   ("refused", number, line, place).
@@ -43,6 +44,15 @@ ELEMENTS = {
     27: (b"photAp", values.positive_decimal, 6),
     28: (b"notes", values.alphanumerics, 1, 6),
     29: (b"remarks", values.free, 300),
+    # Order 3: station codes are as stn.
+    30: (b"trx", values.alphanumerics, 3, 4),
+    31: (b"rcv", values.alphanumerics, 3, 4),
+    32: (b"delay", values.positive_decimal, 14),
+    33: (b"rmsDelay", values.positive_decimal, 6),
+    34: (b"doppler", values.signed_decimal, 14),
+    35: (b"rmsDoppler", values.positive_decimal, 6),
+    36: (b"frq", values.positive_decimal, 14),
+    37: (b"com", values.flag),
 }
 NUMBERS = {ELEMENTS[number][0]: number for number in ELEMENTS}
 
@@ -50,6 +60,11 @@ IDENTIFICATION = (1, 2, 3, 4)
 NEEDED = (7, 8, 15, 17, 18, 22)
 LOCATION = (9, 10, 11, 12, 13)
 PHOTOMETRY = (23, 24, 25, 26, 27)
+
+# Order 3: an observation is radar where any of these is present, and then all of those are foreign to it.
+RADAR = (30, 31, 32, 33, 34, 35, 36, 37)
+FOREIGN_TO_RADAR = (3, 4, 7, 8, 9, 10, 11, 12, 13, 16, 17, 18, 19, 20, 21, 22, 23, 24, 25, 26, 27)
+DELAY, DOPPLER = (32, 33), (34, 35)
 
 # What a line may be, by what came before it.
 VERSION_DUE = "the text begins: a version line"
@@ -76,7 +91,7 @@ def read(report):
     if len(report) > TEXT_LIMIT:
         return refused(1, 0, 0)
     observations, starts = [], []
-    due, columns = VERSION_DUE, []
+    due, columns, rows = VERSION_DUE, [], []
     start = line_number = 0
     while start < len(report):
         line_number += 1
@@ -102,12 +117,16 @@ def read(report):
             if fault:
                 number, place = fault
                 return refused(number, line_number, place)
-            due = FIRST_ROW_DUE
+            due, rows = FIRST_ROW_DUE, []
         else:
             fault, observation, where = read_row(line, columns, len(observations) + 1)
             if fault:
                 number, place = fault
                 return refused(number, line_number, place)
+            # 21: kinds mixed in one block, at the first row whose kind differs from the block's first row; after 13.
+            rows.append(observation)
+            if is_radar(observation) != is_radar(rows[0]):
+                return refused(21, line_number, 0)
             observations.append(observation)
             starts.append({element: start + offset for element, offset in where.items()})
             due = ROW_OR_VERSION_DUE
@@ -133,7 +152,7 @@ def read_columns(line):
 
 
 def read_row(line, columns, row_number):
-    """A data line. On it: 14, 18, then field by field 8, 9, 10, then 11, 12, 13."""
+    """A data line. On it: 14, 18, then field by field 8, 9, 10, then 22, 11, 12, 13."""
     # 14: the 257th data line.
     if row_number > ROW_LIMIT:
         return (14, 0), None, None
@@ -154,7 +173,7 @@ def read_row(line, columns, row_number):
             observation[element] = value
             where[element] = offset + len(field) - len(field.lstrip(b" "))
         offset += len(field) + 1
-    return lack_of(observation), observation, where
+    return foreign_in(observation) or lack_of(observation), observation, where
 
 
 def fault_of(element, value):
@@ -163,8 +182,42 @@ def fault_of(element, value):
     return form(value, *details)
 
 
+def is_radar(observation):
+    """Kind goes by values, not by columns: an observation is radar where any of 30 to 37 is present."""
+    return any(element in observation for element in RADAR)
+
+
+def foreign_in(observation):
+    """22: an element foreign to its kind, place the lowest such number; None where there is none."""
+    if not is_radar(observation):
+        return None
+    # With doppler present, 32 and 33 are foreign; without it 34 and 35 are.
+    foreign = FOREIGN_TO_RADAR + (DELAY if 34 in observation else DOPPLER)
+    for element in sorted(foreign):
+        if element in observation:
+            return (22, element)
+    return None
+
+
 def lack_of(observation):
     """What one observation must hold: None, or the number and place of what it lacks."""
+    return radar_lack_of(observation) if is_radar(observation) else optical_lack_of(observation)
+
+
+def radar_lack_of(observation):
+    """A radar observation has permID or provID (place 1 where both are absent), obsTime, trx, rcv, delay or doppler
+    with its own rms, frq and com; by element number. Without doppler, delay and rmsDelay are needed."""
+    if 1 not in observation and 2 not in observation:
+        return (11, 1)
+    measured = DOPPLER if 34 in observation else DELAY
+    for element in (15, 30, 31, *measured, 36, 37):
+        if element not in observation:
+            return (11, element)
+    return None
+
+
+def optical_lack_of(observation):
+    """What an optical observation must hold, as document 01 says."""
     # At least one of elements 1 to 4 (place 1 where all are absent), and all of mode, stn, ...
     if not any(element in observation for element in IDENTIFICATION):
         return (11, 1)
@@ -202,7 +255,7 @@ def check(report):
 
 def asked(report, observation, element):
     """The reader's answer, or the refusal of the request: 16 no observation of that number, then
-    17 element number not 1 to 29."""
+    17 element number not 1 to 37."""
     answer = read(report)
     if is_refused(answer):
         return answer
@@ -225,8 +278,8 @@ def showing(report, observation, element):
     return ("shown", starts[observation - 1][element], len(observations[observation - 1][element]))
 
 
-# Elements with a value are 10 to 13, 15 to 21, 23, 24, 27.
-DECIMALS = (11, 12, 13, 16, 19, 20, 21, 23, 24, 27)
+# Elements with a value are 10 to 13, 15 to 21, 23, 24, 27, and of order 3 those from 32 to 36.
+DECIMALS = (11, 12, 13, 16, 19, 20, 21, 23, 24, 27, 32, 33, 34, 35, 36)
 
 
 def value(report, observation, element):
@@ -265,13 +318,18 @@ def written_block(rows):
     return b"".join(line + b"\n" for line in lines)
 
 
+def parted(observations, cuts):
+    """The rows of each block, the cuts being the blocks' numbers of rows in order."""
+    blocks, first = [], 0
+    for count in cuts:
+        blocks.append(observations[first:first + count])
+        first += count
+    return blocks
+
+
 def written(observations, cuts):
-    """The observations in blocks, the cuts being the blocks' numbers of rows in order."""
-    text, first = b"", 0
-    for rows in cuts:
-        text += written_block(observations[first:first + rows])
-        first += rows
-    return text
+    """The observations in blocks by these cuts."""
+    return b"".join(map(written_block, parted(observations, cuts)))
 
 
 def block_bytes(rows):
@@ -283,9 +341,14 @@ def block_bytes(rows):
     return 15 + names + len(columns) + contents + len(rows) * len(columns)
 
 
+def is_of_one_kind(rows):
+    """A block holds one kind (order 3)."""
+    return len({is_radar(row) for row in rows}) <= 1
+
+
 def shortest_cuts(observations):
-    """The cuts of the shortest text; among equals the one whose first block has most rows, then the
-    second, and so on. From the last row back: the best from each row on rests on the best after it."""
+    """The cuts of the shortest text whose blocks hold one kind; among equals the one whose first block has most
+    rows, then the second, and so on. From the last row back: the best from each row on rests on the best after it."""
     count = len(observations)
     least = [0] * (count + 1)
     first_block = [0] * (count + 1)
@@ -293,6 +356,8 @@ def shortest_cuts(observations):
         columns, names, contents = set(), 0, 0
         for end in range(first + 1, count + 1):
             row = observations[end - 1]
+            if is_radar(row) != is_radar(observations[first]):
+                break
             names += sum(len(ELEMENTS[element][0]) for element in row if element not in columns)
             columns.update(row)
             contents += sum(map(len, row.values()))
@@ -307,10 +372,11 @@ def shortest_cuts(observations):
 
 
 def pack_by_every_cutting(observations):
-    """The same text found by writing out every cutting; for few rows only."""
+    """The same text found by writing out every cutting whose blocks hold one kind; for few rows only."""
     if not observations:
         return b""
-    texts = [(written(observations, cuts), cuts) for cuts in every_cutting(len(observations))]
+    texts = [(written(observations, cuts), cuts) for cuts in every_cutting(len(observations))
+             if all(map(is_of_one_kind, parted(observations, cuts)))]
     least = min(len(text) for text, _ in texts)
     return max((cuts, text) for text, cuts in texts if len(text) == least)[1]
 

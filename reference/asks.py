@@ -1,36 +1,76 @@
 """Cases that ask for an element of an observation: shown, absent, no value, and refusals 16 and 17."""
 
 import ades
-from reports import (SPECIMEN, block, random_layout, random_rows, random_shape, row, shuffled_columns, to_show,
-                     to_value, whole_row)
+from reports import (DELAY_SPECIMEN, DOPPLER_SPECIMEN, SPECIMEN, block, delay_row, doppler_row, random_layout,
+                     random_rows, random_shapes, row, shuffled_columns, to_show, to_value, whole_delay_row,
+                     whole_row)
 
 LARGEST = 18_446_744_073_709_551_615
-WITHOUT_VALUE = (1, 2, 3, 4, 5, 6, 7, 8, 9, 14, 22, 25, 26, 28, 29)
+WITHOUT_VALUE = (1, 2, 3, 4, 5, 6, 7, 8, 9, 14, 22, 25, 26, 28, 29, 30, 31, 37)
 
 
 def each_element(chance):
-    """Every element of a report that has all and of one that has few, the columns in any order."""
-    for rows in ([whole_row()], [row()], [row(permID=b"1"), whole_row(trkSub=None)]):
+    """Every element of a report that has all and of one that has few, of both kinds, the columns in any order."""
+    for rows in ([whole_row()], [row()], [row(permID=b"1"), whole_row(trkSub=None)], [whole_delay_row()],
+                 [delay_row(), doppler_row()]):
         report = block(rows, shuffled_columns(chance, rows, 3), chance)
         for element in ades.ELEMENTS:
+            is_present = element in rows[-1]
+            assert ades.showing(report, len(rows), element)[0] == ("shown" if is_present else "absent")
             yield to_show(report, len(rows), element)
             answer = ades.value(report, len(rows), element)
             assert (answer == ("no value",)) == (element in WITHOUT_VALUE)
+            assert (answer == ("absent",)) == (element not in WITHOUT_VALUE and not is_present)
             yield to_value(report, len(rows), element)
+
+
+# The radar elements of a night of both kinds: observation, element, what is shown, what it is worth.
+NIGHT = SPECIMEN + DELAY_SPECIMEN + DOPPLER_SPECIMEN + SPECIMEN
+NO_VALUE, ABSENT = ("no value",), ("absent",)
+ASKED = [
+    (1, 30, None, NO_VALUE), (1, 31, None, NO_VALUE), (1, 32, None, ABSENT), (1, 33, None, ABSENT),
+    (1, 34, None, ABSENT), (1, 35, None, ABSENT), (1, 36, None, ABSENT), (1, 37, None, NO_VALUE),
+    (2, 30, b"251", NO_VALUE), (2, 31, b"253", NO_VALUE), (2, 32, b"12.5", ("decimal", 125, 1)),
+    (2, 33, b"0.5", ("decimal", 5, 1)), (2, 34, None, ABSENT), (2, 35, None, ABSENT),
+    (2, 36, b"8560", ("decimal", 8560, 0)), (2, 37, b"1", NO_VALUE), (2, 8, None, NO_VALUE), (2, 17, None, ABSENT),
+    (2, 4, None, NO_VALUE), (2, 10, None, ABSENT), (2, 1, b"433", NO_VALUE),
+    (3, 30, b"251", NO_VALUE), (3, 31, b"253", NO_VALUE), (3, 32, None, ABSENT), (3, 33, None, ABSENT),
+    (3, 34, b"-0.25", ("decimal", -25, 2)), (3, 35, b"0.2", ("decimal", 2, 1)), (3, 36, b"2380", ("decimal", 2380, 0)),
+    (3, 37, b"0", NO_VALUE), (3, 15, b"2024-03-01T04:05:06.5Z", ("time", 60_370, 14_706_500_000)),
+    (4, 17, b"10.5", ("angle", 10_500_000_000)), (4, 36, None, ABSENT), (4, 37, None, NO_VALUE),
+]
+
+
+def of_both_kinds():
+    """Elements of a night of both kinds, shown and valued."""
+    for observation, element, text, worth in ASKED:
+        answer, *where = ades.showing(NIGHT, observation, element)
+        assert (answer, where) == ("absent", []) if text is None else NIGHT[where[0]:sum(where)] == text
+        assert ades.value(NIGHT, observation, element) == worth
+        yield to_show(NIGHT, observation, element)
+        yield to_value(NIGHT, observation, element)
 
 
 def refused_requests():
     """16 before 17, both after the report's own refusals, which here are of several kinds."""
     two = block([row(), row(trkSub=b"a2")]) + SPECIMEN
-    broken = [SPECIMEN + b"x", SPECIMEN + b"#\n", block([row(mode=None)]), block([row(ra=b"05")])]
+    mixed = SPECIMEN + DELAY_SPECIMEN
+    broken = [SPECIMEN + b"x", SPECIMEN + b"#\n", block([row(mode=None)]), block([row(ra=b"05")]),
+              block([row(), delay_row()]), block([delay_row(trkSub=b"a1")])]
     questions = [
         (SPECIMEN, 0, 1, 16), (SPECIMEN, 2, 1, 16), (SPECIMEN, LARGEST, 1, 16), (SPECIMEN, 1, 0, 17),
-        (SPECIMEN, 1, 30, 17), (SPECIMEN, 1, LARGEST, 17), (SPECIMEN, 0, 0, 16), (SPECIMEN, 2, 30, 16),
+        (SPECIMEN, 1, 38, 17), (SPECIMEN, 1, LARGEST, 17), (SPECIMEN, 0, 0, 16), (SPECIMEN, 2, 38, 16),
         (SPECIMEN, LARGEST, LARGEST, 16), (SPECIMEN, 1, 32 + 15, 17), (SPECIMEN, 1, 64 + 15, 17),
+        (SPECIMEN, 0, 37, 16), (SPECIMEN, 2, 37, 16), (SPECIMEN, 1, 39, 17), (SPECIMEN, 1, 43, 17),
+        (SPECIMEN, 1, 64 + 30, 17), (SPECIMEN, 1, 256 + 37, 17), (SPECIMEN, 1, 2 ** 32 + 37, 17),
+        (DELAY_SPECIMEN, 1, 0, 17), (DELAY_SPECIMEN, 1, 38, 17), (DELAY_SPECIMEN, 1, 39, 17),
+        (DELAY_SPECIMEN, 2, 37, 16), (DELAY_SPECIMEN, 0, 38, 16), (DELAY_SPECIMEN, 1, 64, 17),
+        (DOPPLER_SPECIMEN, 1, 38, 17), (DOPPLER_SPECIMEN, 1, 64 + 34, 17), (DOPPLER_SPECIMEN, 1, LARGEST, 17),
+        (mixed, 1, 38, 17), (mixed, 2, 38, 17), (mixed, 3, 30, 16), (mixed, 3, 38, 16), (mixed, 2, 0, 17),
         (SPECIMEN, 1, 256 + 15, 17), (SPECIMEN, 1, 2 ** 32 + 15, 17), (SPECIMEN, 2 ** 32 + 1, 15, 16),
         (SPECIMEN, 2 ** 63 + 1, 15, 16), (SPECIMEN, 257, 15, 16), (SPECIMEN, 1, 2 ** 63 + 15, 17),
         (b"", 0, 0, 16), (b"", 1, 1, 16), (b"", 1, 0, 16), (b"", LARGEST, 15, 16), (b"", 0, 15, 16),
-        (two, 4, 1, 16), (two, 4, 31, 16), (two, 3, 31, 17), (two, 0, 29, 16), (two, 2, 0, 17), (two, 3, 30, 17),
+        (two, 4, 1, 16), (two, 4, 39, 16), (two, 3, 39, 17), (two, 0, 29, 16), (two, 2, 0, 17), (two, 3, 38, 17),
     ]
     for observation, element in ((0, 15), (1, 0), (9, 99), (1, 17)):
         questions += [(report, observation, element, None) for report in broken]
@@ -43,8 +83,8 @@ def refused_requests():
 
 def in_large_reports(chance):
     """Elements of observations somewhere in reports of several blocks, laid out by chance."""
-    for _ in range(60):
-        rows = random_rows(chance, chance.randint(2, 9), [random_shape(chance) for _ in range(3)])
+    for _ in range(80):
+        rows = random_rows(chance, chance.randint(2, 9), random_shapes(chance, 3))
         report = random_layout(chance, rows)
         observation = chance.randint(1, len(rows))
         element = chance.choice(sorted(rows[observation - 1]))
@@ -57,5 +97,6 @@ def in_large_reports(chance):
 def cases(chance):
     """All cases of this file."""
     yield from each_element(chance)
+    yield from of_both_kinds()
     yield from refused_requests()
     yield from in_large_reports(chance)

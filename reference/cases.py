@@ -33,7 +33,8 @@ import refusals
 import sums
 
 HEADER_LENGTH = 60
-LONGEST_FILE = 3_500_000
+LONGEST_TEXT = 70_000
+LONGEST_FILE = 5_000_000
 LETTERS = "CSVPNLR"
 
 
@@ -95,13 +96,14 @@ def main(directory):
     """Checks the reference, makes the cases and their answers, and writes both files."""
     sums.check_reference(random.Random("Kyrrbolda sums"))
     cases = list(all_cases())
+    assert all(len(text) <= LONGEST_TEXT for case in cases for text in case[3:])
     text = b"".join(header(case) + case[3] + case[4] for case in cases)
     assert len(text) <= LONGEST_FILE
     counts = collections.Counter(case[0] for case in cases)
     assert counts["C"] + counts["S"] + counts["V"] >= 650 and counts["P"] >= 220 and counts["N"] >= 200
     answers = [answer(case) for case in cases]
     refused = collections.Counter(line.split()[1].decode() for line in answers if line.startswith(b"refused"))
-    assert set(refused) == {str(number) for number in range(1, 21)}
+    assert set(refused) == {str(number) for number in range(1, 24)}
     directory.mkdir(parents=True, exist_ok=True)
     (directory / "cases").write_bytes(text)
     (directory / "stdout").write_bytes(b"".join(answers))

@@ -1,11 +1,12 @@
 """Cases on the form of each element: at its edges, one byte past them, with wrong bytes.
 
-`RIGHT` and `WRONG` are written by hand from document 01 and order 2, not worked out, and the decimals of each width
-follow from how they are put together: the reference has to agree with all of them before a case is made.
+`RIGHT` and `WRONG` are written by hand from document 01 and orders 2 and 3, not worked out, and the decimals of each
+width follow from how they are put together: the reference has to agree with all of them before a case is made.
 """
 
 import ades
-from reports import block, row, row_with, shuffled_columns, to_check, to_show, to_value
+from reports import (DELAY_SPECIMEN, SPECIMEN, block, delay_row, doppler_row, row, row_with, shuffled_columns, to_check,
+                     to_show, to_value)
 
 BYTES_25 = b"abcdefghijklmnopqrstuvwxy"
 
@@ -76,6 +77,23 @@ RIGHT = {
             b"10.50": (1050, 2)},
     "rmsMag": {b"0.1": (1, 1), b"0.0001": (1, 4), b"000001": (1, 0)},
     "photAp": {b"3.5": (35, 1), b"123456": (123456, 0), b"1234.5": (12345, 1)},
+    "trx": [b"251", b"000", b"abc", b"ABCD", b"a_b", b"a b", b"a  b", b"____", b"9999"],
+    "rcv": [b"253", b"zzz", b"_ _", b"W84a", b"1 34", b"12 4", b"0123", b"___"],
+    "com": [b"0", b"1"],
+    "delay": {b"12.5": (125, 1), b"1": (1, 0), b"0.000000000001": (1, 12), b"12345678901234": (12345678901234, 0),
+              b"1234567.890123": (1234567890123, 6), b"00000000000001": (1, 0), b"1.50": (150, 2),
+              b"007.50": (750, 2), b"99999999999999": (99999999999999, 0), b"1.000000000000": (1000000000000, 12)},
+    "rmsDelay": {b"0.5": (5, 1), b"123456": (123456, 0), b"0.0001": (1, 4), b"000001": (1, 0), b"100": (100, 0),
+                 b"1234.5": (12345, 1)},
+    "doppler": {b"-0.25": (-25, 2), b"0": (0, 0), b"-0": (0, 0), b"+0": (0, 0), b"+0.0": (0, 1), b"-0.00": (0, 2),
+                b"12345678901234": (12345678901234, 0), b"-12345678901234": (-12345678901234, 0),
+                b"+12345678901234": (12345678901234, 0), b"-1234567.890123": (-1234567890123, 6),
+                b"-0.000000000001": (-1, 12), b"+1.20": (120, 2), b"1.2": (12, 1), b"00000000000000": (0, 0),
+                b"-00000000000.10": (-10, 2), b"-99999999999999": (-99999999999999, 0), b"007.50": (750, 2)},
+    "rmsDoppler": {b"0.2": (2, 1), b"999999": (999999, 0), b"00.100": (100, 3), b"0.0001": (1, 4), b"1": (1, 0)},
+    "frq": {b"8560": (8560, 0), b"2380.0": (23800, 1), b"8559.999999999": (8559999999999, 9),
+            b"99999999999999": (99999999999999, 0), b"0.000000000001": (1, 12), b"1234567": (1234567, 0),
+            b"0000000002380.": (2380, 0)},
 }
 
 # Wrong values by element and refusal number.
@@ -238,6 +256,48 @@ WRONG = {
         9: [b"-3.5", b"+3.5", b"3,5"],
         10: [b"0", b"00.000", b"0.00"],
     },
+    "trx": {
+        8: [b"25", b"2", b"25112", b"a   b", b"x" * 60],
+        9: [b"2-1", b"-", b"25-12", b"2.1", b"25.", b"a:", b"$51", b"251/3", b"--"],
+    },
+    "rcv": {
+        8: [b"ab", b"_", b"a b c", b"x" * 301],
+        9: [b"25+", b"+", b"2,3", b"253-", b"253-253", b"~53", b"25 3.5"],
+    },
+    "delay": {
+        8: [b"123456789012345", b"0.0000000000001", b"-12345678901234", b"+1234567.890123", b"000000000000000",
+            b"abcdefghijklmno", b"-" * 15],
+        9: [b"-12.5", b"+12.5", b"-0", b"+1", b"-1234567890123", b"a", b"1.2.3", b"1,2", b"1e5", b"1 2", b"0x1",
+            b"12s", b"-00000000000.0", b"+0.00000000001"],
+        10: [b"0", b"0.0", b"00", b"00000000000000", b"0.000000000000", b"000000000000.0"],
+    },
+    "rmsDelay": {
+        8: [b"1234567", b"0.00001", b"-123456", b"+0.0001", b"0000000", b"abcdefg"],
+        9: [b"-0.5", b"+0.5", b"-0", b"a", b"1 1", b"1e-3", b"-12345"],
+        10: [b"0", b"0.0", b"000000", b"0.0000"],
+    },
+    "doppler": {
+        8: [b"123456789012345", b"-123456789012345", b"+123456789012345", b"0.0000000000001", b"-0.0000000000001",
+            b"--12345678901234", b"000000000000000", b"abcdefghijklmno", b"+" * 16],
+        9: [b"--1", b"+-1", b"-+1", b"1-", b"1+", b"1.2.3", b"1,2", b"1e5", b"1 2", b"a", b"- 1", b"-abcdefghijklmn",
+            b"--1234567890123", b"1_0", b"12Hz"],
+    },
+    "rmsDoppler": {
+        8: [b"1234567", b"0.00001", b"-123456", b"+123456", b"0000.00"],
+        9: [b"-0.2", b"+0.2", b"-0", b"x", b"0,2"],
+        10: [b"0", b"0.0", b"000000", b"00.000"],
+    },
+    "frq": {
+        8: [b"123456789012345", b"8559.9999999999", b"+12345678901234", b"-8559.999999999", b"000000000000000"],
+        9: [b"-8560", b"+8560", b"-0", b"8.56e3", b"8560MHz", b"8 560", b"-1234567890123"],
+        10: [b"0", b"0.0", b"00000000000000", b"0.000000000000"],
+    },
+    "com": {
+        10: [b"2", b"9", b"00", b"01", b"10", b"11", b"000", b"-", b"+", b".", b"-0", b"+0", b"-1", b"+1", b"0.", b".0",
+             b"1.", b"1.0", b"0.0", b".1", b"0 1", b"1 0", b"0 0", b"O", b"o", b"l", b"I", b"T", b"F", b"true",
+             b"false", b"yes", b"no", b"True", b"\"1\"", b"0x0", b"/", b":", b"!", b"~", b"_", b"#", b"a", b"@", b"p",
+             b"q", b"CCD", b"0,1", b"0" * 40, b"1" * 300, b"1" * 301, b"peak power", b"1" + b" " * 400 + b"1"],
+    },
 }
 
 TIMES, ANGLES, WHOLES = ("obsTime",), ("ra", "dec"), ("ctr",)
@@ -245,8 +305,9 @@ TIMES, ANGLES, WHOLES = ("obsTime",), ("ra", "dec"), ("ctr",)
 
 # ---- decimals with the point first or last, by their width
 
-SIGNED = {"pos1": 13, "pos2": 13, "pos3": 13, "mag": 6}
-POSITIVE = {"rmsTime": 8, "rmsRA": 7, "rmsDec": 7, "rmsMag": 6, "photAp": 6}
+SIGNED = {"pos1": 13, "pos2": 13, "pos3": 13, "mag": 6, "doppler": 14}
+POSITIVE = {"rmsTime": 8, "rmsRA": 7, "rmsDec": 7, "rmsMag": 6, "photAp": 6, "delay": 14, "rmsDelay": 6,
+            "rmsDoppler": 6, "frq": 14}
 SIGNS = {b"": 1, b"+": 1, b"-": -1}
 
 
@@ -312,13 +373,29 @@ def expected_worth(name, worth):
     return ("time" if name in TIMES else "decimal", *worth)
 
 
+SHARED = ("permID", "provID", "obsID", "obsSubID", "prog", "obsTime", "notes", "remarks")
+
+
+def row_around(chance, name, value):
+    """A row with the value in it: a radar one where the element is radar's, and now and then where both kinds have
+    it."""
+    if name in SHARED and chance.random() < 0.3:
+        return chance.choice((delay_row, doppler_row))(**{name: value})
+    return row_with(name, value)
+
+
 def report_around(chance, name, value):
-    """A report with the value in it, its columns in some order, perhaps padded, perhaps after other
-    rows; and the value's line, place and observation number."""
-    rows = [row()] * chance.choice((0, 0, 0, 1, 2)) + [row_with(name, value)]
+    """A report with the value in it, its columns in some order, perhaps padded, perhaps after other rows of its kind,
+    perhaps after a block of the other kind; and the value's line, place and observation number."""
+    last = row_around(chance, name, value)
+    before, other = (delay_row(), SPECIMEN) if ades.is_radar(last) else (row(), DELAY_SPECIMEN)
+    rows = [before] * chance.choice((0, 0, 0, 1, 2)) + [last]
     columns = ades.columns_of(rows) if chance.random() < 0.4 else shuffled_columns(chance, rows, chance.choice((0, 1)))
     report = block(rows, columns, chance if chance.random() < 0.5 else None)
-    return report, len(rows) + 2, columns.index(ades.NUMBERS[name.encode()]) + 1, len(rows)
+    place = columns.index(ades.NUMBERS[name.encode()]) + 1
+    if chance.random() < 0.1:
+        return other + report, len(rows) + 5, place, len(rows) + 1
+    return report, len(rows) + 2, place, len(rows)
 
 
 # ---- the cases
@@ -370,6 +447,12 @@ SHAPED = {
     "rmsCorr": [b"-0.5", b"-1.", b"+.5"],
     "mag": [b"+1.25", b"-12.", b"+.125"],
     "rmsMag": [b"10.5", b"10.", b".01"],
+    "trx": [b"251", b"a bc"],
+    "delay": [b"12.5"],
+    "doppler": [b"-12.5", b"+.5"],
+    "rmsDoppler": [b"0.2"],
+    "frq": [b"2380."],
+    "com": [b"0", b"1"],
 }
 OTHER_BYTES = b"0123569AIPZaz_ -+./:"
 

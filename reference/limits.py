@@ -3,9 +3,11 @@
 import ades
 from ades import ROW_LIMIT, TEXT_LIMIT, refused
 from refusals import WHAT_MAKES_THEM, line_with
-from reports import SPECIMEN, VERSION, block, line_of, names_of, row, small_row, to_check, to_show, to_value
+from reports import (SPECIMEN, VERSION, block, delay_row, line_of, names_of, row, small_radar_row, small_row, to_check,
+                     to_show, to_value)
 
 FULL = block([small_row()] * ROW_LIMIT)
+FULL_OF_RADAR = block([small_radar_row()] * ROW_LIMIT)
 
 
 def filled(report, length):
@@ -32,6 +34,8 @@ def of_row_limit():
     for number in (18, 8, 9, 10, 11, 12, 13):
         fault = next(fault for fault in WHAT_MAKES_THEM if fault[0] == number)
         yield head + line_with([fault], ades.ELEMENTS), (14, 261, 0)
+    yield FULL + block([delay_row(trkSub=b"a1")]), (14, 261, 0)
+    yield FULL_OF_RADAR + line_of(small_radar_row(com=b"2").values()), (14, 259, 0)
     # The last row that may stand is looked at like any other.
     yield block([small_row()] * (ROW_LIMIT - 1) + [small_row(dec=b"91")]), (10, 258, 6)
     yield block([small_row()] * (ROW_LIMIT - 1) + [small_row(dec=b"91")]) + small, (10, 258, 6)
@@ -71,3 +75,6 @@ def cases(_):
     yield to_value(FULL, ROW_LIMIT, 15)
     yield to_show(FULL, ROW_LIMIT + 1, 22)
     yield to_value(FULL, ROW_LIMIT, 16)
+    yield to_show(FULL_OF_RADAR, ROW_LIMIT, 37)
+    yield to_value(FULL_OF_RADAR, ROW_LIMIT, 32)
+    yield to_show(FULL_OF_RADAR, ROW_LIMIT + 1, 37)

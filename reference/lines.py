@@ -1,11 +1,12 @@
 """Cases on the lines of a report: version lines, column lines, the count of fields, odd but right layouts.
 
-Each report stands beside its answer, written by hand from document 01; the reference has to agree
+Each report stands beside its answer, written by hand from document 01 and order 3; the reference has to agree
 before a case is made.
 """
 
 import ades
-from reports import COLUMNS, ROW, SPECIMEN, VERSION, names_of, to_check
+from reports import (COLUMNS, DELAY_COLUMNS, DELAY_ROW, DELAY_SPECIMEN, DOPPLER_COLUMNS, DOPPLER_ROW, DOPPLER_SPECIMEN,
+                     ROW, SPECIMEN, VERSION, names_of, to_check)
 
 # Reports with one fault, or with several on one line that is a version or column line: refusal, line, place.
 REFUSED = [
@@ -76,7 +77,8 @@ REFUSED = [
     (VERSION + b"trkSubs\n" + ROW, 6, 2, 1),
     (VERSION + b"remark|remarks\n" + ROW, 6, 2, 1),
     (VERSION + b"obsid\n" + ROW, 6, 2, 1),
-    (VERSION + b"com|trkSub\n" + ROW, 6, 2, 1),
+    (VERSION + b"comment|trkSub\n" + ROW, 6, 2, 1),
+    (VERSION + b"com|trkSub\n" + ROW, 18, 3, 0),
     (VERSION + ROW, 6, 2, 1),
     (VERSION + b"-\n" + ROW, 6, 2, 1),
     (VERSION + b" #\n" + ROW, 6, 2, 1),
@@ -86,8 +88,11 @@ REFUSED = [
     (VERSION + b"ra|ra\n" + ROW, 7, 2, 2),
     (VERSION + b"ra| ra \n" + ROW, 7, 2, 2),
     (VERSION + b"trkSub|mode|stn|obsTime|ra|dec|astCat|trkSub\n" + ROW, 7, 2, 8),
-    (VERSION + b"|".join(names_of(ades.ELEMENTS)) + b"|permID\n" + ROW, 7, 2, 30),
-    (VERSION + b"|".join(names_of(ades.ELEMENTS)) + b"|remarks\n" + ROW, 7, 2, 30),
+    (VERSION + b"|".join(names_of(ades.ELEMENTS)) + b"|permID\n" + ROW, 7, 2, 38),
+    (VERSION + b"|".join(names_of(ades.ELEMENTS)) + b"|remarks\n" + ROW, 7, 2, 38),
+    (VERSION + b"|".join(names_of(ades.ELEMENTS)) + b"|com\n" + ROW, 7, 2, 38),
+    (VERSION + b"|".join(names_of(ades.ELEMENTS)) + b"|posCov11\n" + ROW, 6, 2, 38),
+    (VERSION + b"|".join(names_of(ades.ELEMENTS)) + b"|\n" + ROW, 6, 2, 38),
     (SPECIMEN + VERSION + b"ra|dec|ra|dec\n" + ROW, 7, 5, 3),
     # 6 and 7: the leftmost field decides.
     (VERSION + b"ra|what|ra\n" + ROW, 6, 2, 2),
@@ -139,7 +144,57 @@ REFUSED = [
     (VERSION + COLUMNS + ROW[:-1] + b"|" * 64 + b"\n", 18, 3, 0),
     (VERSION + COLUMNS + ROW[:-1] + b"|" * 256 + b"\n", 18, 3, 0),
     (SPECIMEN + b"a|b|c\n", 18, 4, 0),
+    # Radar reports.
+    (DELAY_SPECIMEN[:-1], 2, 3, 0),
+    (VERSION + DELAY_COLUMNS[:-1], 2, 2, 0),
+    (VERSION + DELAY_COLUMNS, 5, 3, 0),
+    (DELAY_SPECIMEN + VERSION + DOPPLER_COLUMNS, 5, 6, 0),
+    (VERSION + DELAY_COLUMNS + DOPPLER_SPECIMEN, 5, 3, 0),
+    (DELAY_SPECIMEN + b"\x00\n", 3, 4, 0),
+    (DELAY_SPECIMEN + b"\n", 18, 4, 0),
+    (VERSION + DELAY_COLUMNS + DELAY_ROW[:-1] + b"|\n", 18, 3, 0),
+    (VERSION + DELAY_COLUMNS + b"|" + DELAY_ROW, 18, 3, 0),
+    (VERSION + DELAY_COLUMNS + b"|||||||\n", 11, 3, 1),
+    (VERSION + DELAY_COLUMNS + b"||||||\n", 18, 3, 0),
+    (VERSION + DELAY_COLUMNS + b"#33" + DELAY_ROW[3:], 4, 3, 0),
+    (VERSION + b"com\n0\n", 11, 3, 1),
+    (VERSION + b"com\n \n", 11, 3, 1),
+    (VERSION + b"com\n2\n", 10, 3, 1),
+    (VERSION + b"delay\n-1\n", 9, 3, 1),
+    (VERSION + b"com|permID\n1|1\n", 11, 3, 15),
+    (VERSION + b"com|permID\n |1\n", 11, 3, 7),
+    (VERSION + DELAY_COLUMNS + DELAY_ROW.replace(b"|1\n", b"|  \n"), 11, 3, 37),
+    (VERSION + DELAY_COLUMNS + DELAY_ROW.replace(b"|1\n", b"|\n"), 11, 3, 37),
+    (VERSION + DELAY_COLUMNS + DELAY_ROW.replace(b"|1\n", b"|1 1\n"), 10, 3, 8),
+    (VERSION + DELAY_COLUMNS + DELAY_ROW.replace(b"|8560|", b"| |"), 11, 3, 36),
+    (DELAY_SPECIMEN + VERSION + b"trx|rcv|delay|trx\n" + DELAY_ROW, 7, 5, 4),
+    (VERSION + DELAY_COLUMNS[:-1] + b"|doppler|rmsdoppler\n" + DELAY_ROW, 6, 2, 10),
+    (VERSION + DELAY_COLUMNS.replace(b"|com", b"|freq") + DELAY_ROW, 6, 2, 8),
+    # The leftmost field of a column line decides, new names or not.
+    (VERSION + b"trx|what|trx\n" + ROW, 6, 2, 2),
+    (VERSION + b"trx|trx|what\n" + ROW, 7, 2, 2),
+    (VERSION + b"com|ra|ra|com\n" + ROW, 7, 2, 3),
 ]
+
+# Names that are near the new ones and are none; a new name alone, or twice.
+NEAR_NAMES = (
+    b"Trx", b"TRX", b"tr", b"rx", b"trx1", b"tx", b"t rx", b"Rcv", b"RCV", b"rcvr", b"rc", b"rov", b"tcv", b"Delay",
+    b"DELAY", b"dela", b"delays", b"delay1", b"rmsdelay", b"RMSDelay", b"rmsDelays", b"rmsDela", b"rms Delay",
+    b"sigDelay", b"resDelay", b"Doppler", b"dopler", b"dopple", b"dopplers", b"rmsdoppler", b"rmsDopple",
+    b"rmsDopplers", b"rmsDoppler1", b"resDoppler", b"Frq", b"FRQ", b"fr", b"freq", b"frq.", b"frqq", b"Com", b"COM",
+    b"co", b"comm", b"com1", b"comment", b"com,", b"posCov11", b"raStar", b"rms", b"radar")
+NEW_NAMES = (b"trx", b"rcv", b"delay", b"rmsDelay", b"doppler", b"rmsDoppler", b"frq", b"com")
+
+
+def names():
+    """Column lines with these names: report and refusal."""
+    for name in NEAR_NAMES:
+        yield VERSION + b"permID| " + name + b" |obsTime\n" + ROW, (6, 2, 2)
+    for name in NEW_NAMES:
+        yield VERSION + name + b"\n", (5, 3, 0)
+        yield VERSION + b"permID|" + name + b"\n" + ROW, (18, 3, 0)
+        yield VERSION + name + b"|ra| " + name + b"\n" + ROW, (7, 2, 3)
+        yield SPECIMEN + VERSION + b" ".join((name, name)) + b"\n" + ROW, (6, 5, 1)
 
 
 def turned(line):
@@ -166,12 +221,34 @@ ACCEPTED = [
     (VERSION + b"sys|" + COLUMNS + b"|" + ROW + b" |" + ROW, 2),
     (VERSION + COLUMNS[:-1] + b"|permID\n" + ROW[:-1] + b"|\n" + b"|" + ROW[3:-1] + b"|1\n", 2),
     (VERSION + turned(COLUMNS) + turned(ROW), 1),
+    # Radar reports, and columns of the other kind that are empty in every row.
+    (DELAY_SPECIMEN, 1),
+    (DOPPLER_SPECIMEN, 1),
+    (DELAY_SPECIMEN + DELAY_ROW * 2, 3),
+    (DELAY_SPECIMEN + DOPPLER_SPECIMEN, 2),
+    (SPECIMEN + DELAY_SPECIMEN, 2),
+    (DELAY_SPECIMEN + SPECIMEN + DOPPLER_SPECIMEN + DOPPLER_ROW + SPECIMEN + ROW, 6),
+    (VERSION + turned(DELAY_COLUMNS) + turned(DELAY_ROW), 1),
+    (VERSION + b" " + DOPPLER_COLUMNS.replace(b"|", b" | ") + b"  " + DOPPLER_ROW.replace(b"|", b"  |  "), 1),
+    (VERSION + DELAY_COLUMNS + DELAY_ROW[:-1] + b"   \n", 1),
+    (VERSION + DELAY_COLUMNS + DELAY_ROW.replace(b"|1\n", b"| 0\n"), 1),
+    (VERSION + DELAY_COLUMNS + DELAY_ROW.replace(b"|1\n", b"|0 \n"), 1),
+    (VERSION + DELAY_COLUMNS[:-1] + b"|doppler|rmsDoppler\n" + DELAY_ROW[:-1] + b"||\n"
+     + b"433|2024-03-01T04:05:06.5Z|251|253|||2380|0|-0.25|0.2\n", 2),
+    (VERSION + b"com|" + COLUMNS + b"|" + ROW + b" |" + ROW, 2),
+    (VERSION + COLUMNS[:-1] + b"|doppler\n" + ROW[:-1] + b"|   \n", 1),
+    (VERSION + COLUMNS[:-1] + b"|" + b"|".join(NEW_NAMES) + b"\n" + ROW[:-1] + b"|" * 8 + b"\n", 1),
+    (VERSION + b"ra|" + DELAY_COLUMNS + b"|" + DELAY_ROW + b"  |" + DELAY_ROW, 2),
+    (VERSION + DELAY_COLUMNS[:-1] + b"|trkSub|mode|stn|ra|dec|astCat\n" + DELAY_ROW[:-1] + b"| " * 6 + b"\n", 1),
 ]
 
 
 def cases(_):
     """The chance is not used: all these are written out."""
     for report, *refusal in REFUSED:
+        assert ades.read(report) == ades.refused(*refusal), (report, refusal)
+        yield to_check(report)
+    for report, refusal in names():
         assert ades.read(report) == ades.refused(*refusal), (report, refusal)
         yield to_check(report)
     for report, count in ACCEPTED:

@@ -1,4 +1,4 @@
-"""The night list of document 02's order 1, written for reading.
+"""The night list of document 02's order 1, with order 3's refusal of radar observations, written for reading.
 
 A list is bytes: one 40-byte record for each observation, no header, records one after another. An answer
 is a tuple as in `ades`. `write` gives ("written",), `check` gives ("records", count), `read` gives
@@ -58,7 +58,8 @@ def is_within(number, ends):
 
 def is_bad(record, number):
     """No accepted observation at that place could have written it; a short last record and a 257th are bad too.
-    The fields do not depend on one another: each day has all microseconds, and any row may stand at any place."""
+    The fields do not depend on one another: each day has all microseconds, and any optical row may stand at any
+    place."""
     if len(record) < RECORD_LENGTH or number > ades.ROW_LIMIT:
         return True
     written_number, _, day, microseconds, ra, dec = fields(record)
@@ -71,13 +72,15 @@ def is_bad(record, number):
 # ---- what callers ask
 
 def write(report, observation, lent):
-    """The answer, and the list after the call: 16 no observation of that number, then 19 list too short for
-    that place; bytes outside the record stay."""
+    """The answer, and the list after the call: 16 no observation of that number, then 23 a radar observation
+    (order 3), then 19 list too short for that place; bytes outside the record stay."""
     answer = ades.read(report)
     if is_refused(answer):
         return answer, lent
     if not 1 <= observation <= len(answer[1]):
         return refused(16, 0, 0), lent
+    if ades.is_radar(answer[1][observation - 1]):
+        return refused(23, 0, 0), lent
     end = RECORD_LENGTH * observation
     if len(lent) < end:
         return refused(19, 0, 0), lent

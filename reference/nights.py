@@ -12,11 +12,12 @@ import damage
 import night
 from ades import ROW_LIMIT, refused
 from asks import LARGEST
-from limits import FULL, filled
+from limits import FULL, FULL_OF_RADAR, filled
 from night import RECORD_LENGTH
 from refusals import FAULTY_BLOCKS
-from reports import (SPECIMEN, block, line_of, random_layout, random_rows, random_shape, row, shuffled_columns,
-                     small_row, to_check_list, to_read, to_write, whole_row)
+from reports import (DELAY_SPECIMEN, DOPPLER_SPECIMEN, SPECIMEN, block, delay_row, doppler_row, line_of, random_layout,
+                     random_radar_shape, random_rows, random_shape, row, shuffled_columns, small_radar_row, small_row,
+                     to_check_list, to_read, to_write, whole_delay_row, whole_row)
 from sums import judged_rightly
 
 # Numbers that are none of a list's, among them those that times 40 come to 0, 40 and 24 past 64 bits, and
@@ -74,6 +75,55 @@ def refused_reports(chance):
     yield written(chance, SPECIMEN[:-1], 1, 40, (2, 3, 0))
     yield written(chance, filled(SPECIMEN, ades.TEXT_LIMIT + 1), 1, 40, (1, 0, 0))
     yield written(chance, FULL + line_of(small_row().values()), 1, 40, (14, 259, 0))
+
+
+def radar_observations(chance):
+    """23, after 16 and before 19; no byte of the list is changed. Optical rows beside radar ones write at their own
+    places."""
+    for report in (DELAY_SPECIMEN, DOPPLER_SPECIMEN, block([whole_delay_row()])):
+        for length in (0, 1, 39, 40, 41, 200):
+            yield written(chance, report, 1, length, (23, 0, 0))
+        for number in (0, 2, 257, 2 ** 61 + 1, LARGEST):
+            yield written(chance, report, number, chance.choice((0, 40, 80)), (16, 0, 0))
+    rows = [row(trkSub=b"a1"), delay_row(), row(trkSub=b"a3"), doppler_row(), delay_row(), row(trkSub=b"a6")]
+    for _ in range(2):
+        report = random_layout(chance, rows)
+        for place in (2, 4, 5):
+            end = RECORD_LENGTH * place
+            for length in (0, end - RECORD_LENGTH, end - 1, end, end + 1, end + RECORD_LENGTH):
+                yield written(chance, report, place, length, (23, 0, 0))
+        for place in (1, 3, 6):
+            end = RECORD_LENGTH * place
+            for length in (0, end - RECORD_LENGTH, end - 1):
+                yield written(chance, report, place, length, (19, 0, 0))
+            for length in (end, end + 1, end + RECORD_LENGTH + 9):
+                yield written(chance, report, place, length)
+        for number in (0, 7, LARGEST):
+            yield written(chance, report, number, chance.choice((0, 40, 280)), (16, 0, 0))
+
+
+def refused_radar_reports(chance):
+    """The report's own refusal comes before 16, 23 and 19, also where the radar observation stands before the fault."""
+    for number, place, line, text in FAULTY_BLOCKS:
+        for observation, length in ((1, 40), (1, 0)):
+            yield written(chance, DELAY_SPECIMEN + text, observation, length, (number, line + 3, place))
+    yield written(chance, DOPPLER_SPECIMEN[:-1], 1, 40, (2, 3, 0))
+    yield written(chance, FULL_OF_RADAR, ROW_LIMIT, RECORD_LENGTH * ROW_LIMIT, (23, 0, 0))
+    yield written(chance, FULL_OF_RADAR, ROW_LIMIT, 0, (23, 0, 0))
+    yield written(chance, FULL_OF_RADAR, ROW_LIMIT + 1, 0, (16, 0, 0))
+    yield written(chance, FULL_OF_RADAR + line_of(small_radar_row().values()), 1, 40, (14, 259, 0))
+
+
+def nights_of_both_kinds(chance):
+    """Any place of reports of both kinds by chance, the list long enough or too short: 23 where the row is radar."""
+    for _ in range(40):
+        rows = random_rows(chance, chance.randint(2, 7), [random_shape(chance), random_radar_shape(chance)])
+        place = chance.randint(1, len(rows))
+        length = RECORD_LENGTH * place + chance.choice((-41, -40, -1, 0, 0, 0, 5, 60))
+        refusal = (19, 0, 0) if length < RECORD_LENGTH * place else None
+        if ades.is_radar(rows[place - 1]):
+            refusal = (23, 0, 0)
+        yield written(chance, random_layout(chance, rows), place, max(length, 0), refusal)
 
 
 STATIONS = (b"W84", b"500", b"zzz", b"___", b"A B", b"_ _", b"0 0", b"ABCD", b"W84a", b"0123", b"____", b"A  B",
@@ -334,7 +384,8 @@ def written_lists(chance):
 
 def cases(chance):
     """All cases of this file."""
-    for kind in (lengths, no_such_observation, refused_reports, worths, writes_by_chance, ends_of_numbers,
+    for kind in (lengths, no_such_observation, refused_reports, radar_observations, refused_radar_reports,
+                 nights_of_both_kinds, worths, writes_by_chance, ends_of_numbers,
                  bytes_that_are_settled, stations, changed_bytes, short_ends, several_bad, record_numbers, long_lists,
                  written_lists):
         yield from kind(chance)

@@ -1,12 +1,15 @@
 """Cases on packing. Each is checked first: the packed report reads as the same observations, no other
-layout that was tried is shorter, and up to nine rows every cutting was tried."""
+layout that was tried is shorter, and up to nine rows every cutting was tried; up to five rows each cutting was
+read back as well."""
 
 import ades
 from ades import ELEMENTS, ROW_LIMIT, TEXT_LIMIT
-from limits import FULL, filled
+from limits import FULL, FULL_OF_RADAR, filled
 from refusals import FAULTY_BLOCKS
-from reports import (COLUMNS, ROW, SPECIMEN, VERSION, block, random_layout, random_row, random_rows, random_shape, row,
-                     row_with, shuffled_columns, small_row, to_pack, whole_row)
+from reports import (COLUMNS, DELAY_SPECIMEN, DOPPLER_SPECIMEN, ROW, SPECIMEN, VERSION, block, delay_row, doppler_row,
+                     random_layout, random_radar_shape, random_row, random_rows, random_shape, random_shapes, row,
+                     row_with, shuffled_columns, small_radar_row, small_row, stretches, to_pack, whole_delay_row,
+                     whole_doppler_row, whole_row)
 from sums import packs_well, run_rows
 
 LARGEST_ROOM = 70_000
@@ -95,9 +98,9 @@ def bare_points(chance):
         yield from pack_cases(chance, report)
         assert ades.pack(report, len(SPELT) - 1) == ades.refused(15, 0, 0)
         yield to_pack(report, len(SPELT) - 1, chance.randrange(256))
-    for name in ("pos1", "pos2", "pos3", "mag"):
+    for name in ("pos1", "pos2", "pos3", "mag", "doppler"):
         yield from pack_cases(chance, random_layout(chance, [row_with(name, text) for text in SPELLINGS]), 2)
-    for name in ("rmsTime", "rmsRA", "rmsDec", "rmsMag", "photAp"):
+    for name in ("rmsTime", "rmsRA", "rmsDec", "rmsMag", "photAp", "delay", "rmsDelay", "rmsDoppler", "frq"):
         rows = [row_with(name, text) for text in SPELLINGS if text[:1] not in b"+-"]
         yield from pack_cases(chance, random_layout(chance, rows), 2)
     rows = [row_with("rmsCorr", text) for text in (b"1", b"1.", b"+1.", b"001.", b"1.0", b".5", b"-.5", b"0.5")]
@@ -106,11 +109,84 @@ def bare_points(chance):
     yield from pack_cases(chance, random_layout(chance, rows), 2)
 
 
+# ---- radar rows, and nights of both kinds
+
+# Rows in turn, o optical, r of a delay, d of a Doppler shift; the cuts. A block of r and d has two columns more in
+# each row than two blocks and saves 46 bytes, a version line and six names: up to 23 rows it is no longer.
+NIGHTS = [
+    ("r", [1]), ("d", [1]), ("rr", [2]), ("dd", [2]), ("rd", [2]), ("dr", [2]), ("or", [1, 1]), ("ro", [1, 1]),
+    ("oro", [1, 1, 1]), ("ror", [1, 1, 1]), ("oorr", [2, 2]), ("rroo", [2, 2]), ("orrd", [1, 3]),
+    ("oroorrr", [1, 1, 2, 3]), ("rrrrrrrrr", [9]), ("rrrrddddd", [9]), ("rdrdrdrd", [8]), ("orororor", [1] * 8),
+    ("ooorooo", [3, 1, 3]), ("drrdoooodr", [4, 4, 2]), ("ooooooor", [7, 1]), ("rooooooo", [1, 7]),
+    ("rrrrrrrrrrrrdddddddddd", [22]), ("rrrrrrrrrrrrddddddddddd", [23]), ("rrrrrrrrrrrrdddddddddddd", [12, 12]),
+    ("ddddddddddddrrrrrrrrrrrro", [12, 12, 1]),
+]
+
+
+def nights(chance):
+    """These nights, whose cuts were worked out by hand; each laid out by chance, the output exactly long enough and
+    one byte short. A joiner of kinds would write the mixed ones shorter."""
+    kinds = {"o": row(), "r": delay_row(), "d": doppler_row()}
+    for spelt, cuts in NIGHTS:
+        rows = [kinds[letter] for letter in spelt]
+        assert ades.shortest_cuts(rows) == cuts, spelt
+        packed = b"".join(block(part) for part in ades.parted(rows, cuts))
+        for room in (len(packed), len(packed) - 1):
+            report = random_layout(chance, rows)
+            assert ades.pack(report, room) == (("packed", packed) if room == len(packed) else ades.refused(15, 0, 0))
+            yield to_pack(report, room, chance.randrange(256))
+        packs_well(rows, chance)
+
+
+def radar_layouts(chance):
+    """Columns in any order, padding and empty columns of the other kind; values keep their bytes."""
+    reverse = list(ELEMENTS)[::-1]
+    for specimen in (DELAY_SPECIMEN, DOPPLER_SPECIMEN):
+        assert ades.pack(specimen, len(specimen)) == ("packed", specimen)
+        for room in (len(specimen), len(specimen) - 1, len(specimen) + 1, 0):
+            yield to_pack(specimen, room, chance.randrange(256))
+    for rows in ([whole_delay_row()], [whole_doppler_row()], [delay_row(), whole_doppler_row(), delay_row()],
+                 [whole_delay_row(), doppler_row()], [delay_row(delay=b"12.50"), delay_row(delay=b"012.5")],
+                 [doppler_row(doppler=b"+0.0"), doppler_row(doppler=b"-.0"), doppler_row(doppler=b"0.")]):
+        yield from pack_cases(chance, block(rows, reverse), 2)
+        yield from pack_cases(chance, block(rows, shuffled_columns(chance, rows, 4), chance))
+        yield from pack_cases(chance, block([whole_row()], reverse) + block(rows, reverse) + block([row()], reverse), 2)
+    yield from pack_cases(chance, block([delay_row(remarks=b"# version=2022")], reverse) + SPECIMEN)
+    yield from pack_cases(chance, (SPECIMEN + DELAY_SPECIMEN) * 10, 2)
+    yield from pack_cases(chance, (SPECIMEN * 3 + DELAY_SPECIMEN * 2 + DOPPLER_SPECIMEN) * 4, 2)
+
+
+def mixed_nights(chance):
+    """Stretches of several lengths, optical and radar in turn, of a few shapes each, laid out by chance."""
+    for _ in range(45):
+        rows, makers = [], [random_shape, random_radar_shape]
+        chance.shuffle(makers)
+        for number in range(chance.randint(2, 5)):
+            shapes = [makers[number % 2](chance) for _ in range(chance.choice((1, 2)))]
+            rows += random_rows(chance, chance.choice((1, 1, 2, 3, 6)), shapes)
+        yield from pack_cases(chance, random_layout(chance, rows), chance.choice((1, 1, 2)))
+
+
+def shortest_mixed(chance, wanted):
+    """Nights of few rows on which some cutting that mixes kinds, and so does not read back, gives a shorter text."""
+    found = 0
+    while found < wanted:
+        rows = random_rows(chance, chance.randint(2, 6), random_shapes(chance, 3))
+        packed = len(ades.written(rows, ades.shortest_cuts(rows)))
+        shorter = [text for text in (ades.written(rows, cuts) for cuts in ades.every_cutting(len(rows)))
+                   if len(text) < packed]
+        if shorter:
+            assert all(ades.read(text)[1] == 21 for text in shorter)
+            found += 1
+            yield from pack_cases(chance, random_layout(chance, rows))
+
+
 # ---- shapes that share few columns, so that a cut is worth its bytes
 
 NARROW = {4, 7, 8, 15, 17, 18, 22}
 LEFT = [1, 2, 3, 5, 6, 14, 16, 28, 29]
 RIGHT = [9, 10, 11, 12, 13, 19, 20, 23, 25]
+OPTICAL = {element for element in ELEMENTS if element not in ades.RADAR}
 
 
 def far_shapes(chance):
@@ -125,7 +201,7 @@ def of_shape(shape):
 
 def two_kinds_in_turn(chance):
     """Two kinds of rows one after the other, by ones, by twos and by fours."""
-    for shape in (NARROW | {1}, NARROW | {29}, NARROW | set(RIGHT), set(ELEMENTS)):
+    for shape in (NARROW | {1}, NARROW | {29}, NARROW | set(RIGHT), OPTICAL):
         narrow, wide = of_shape(NARROW), of_shape(shape)
         for rows in ([narrow, wide] * 5, [wide, narrow, narrow] * 4, [narrow] * 4 + [wide] * 4 + [narrow] * 4):
             yield from pack_cases(chance, random_layout(chance, rows))
@@ -159,10 +235,11 @@ def tied_rows(chance):
 
 
 def shortest_count(rows):
-    """How many cuttings are shortest: from the last row back, the ways to reach the least."""
+    """How many cuttings are shortest: from the last row back, the ways to reach the least; no block mixes kinds."""
     least, ways = [0], [1]
     for first in reversed(range(len(rows))):
-        lengths = [ades.block_bytes(rows[first:end]) + rest for end, rest in enumerate(least, start=first + 1)]
+        lengths = [ades.block_bytes(rows[first:end]) + rest for end, rest in enumerate(least, start=first + 1)
+                   if ades.is_of_one_kind(rows[first:end])]
         least.insert(0, min(lengths))
         ways.insert(0, sum(count for length, count in zip(lengths, ways) if length == least[0]))
     return ways[0]
@@ -175,19 +252,32 @@ def one_block_as_long_as_two(chance):
                           [narrow] * count + [wide] + [narrow] * count, [wide] + [narrow] * count + [wide]))
 
 
+def radar_block_as_long_as_two(chance):
+    """The same of radar rows, alone, or with optical rows before or after them."""
+    while True:
+        narrow = random_radar_shape(chance)
+        wide = narrow | set(chance.sample((1, 2, 5, 6, 14, 28, 29), chance.randint(2, 7)))
+        spare = len(wide) - len(narrow)
+        if spare and block_overhead(narrow) % spare == 0 and block_overhead(narrow) // spare <= 24:
+            break
+    tied = [narrow] * (block_overhead(narrow) // spare)
+    optical = [random_shape(chance)] * chance.choice((0, 1, 2))
+    return optical + chance.choice((tied + [wide], [wide] + tied)) + chance.choice(([], optical))
+
+
 def between_two_wide_ones(chance):
     """Narrow rows that cost as much in the block before as in the block after."""
     narrow, left, right = far_shapes(chance)
     return [left] * chance.randint(3, 4) + [narrow] * chance.randint(1, 2) + [right] * chance.randint(3, 4)
 
 
-def ties(chance, shapes_by_chance, least_blocks, wanted):
+def ties(chance, shapes_by_chance, least_blocks, wanted, most_rows=10):
     """Of several shortest cuttings, the one whose first block has most rows."""
     found = 0
     while found < wanted:
         shapes = shapes_by_chance(chance)
         rows = [random_row(chance, shape) for shape in shapes]
-        if len(rows) <= 10 and shortest_count(rows) > 1 and len(ades.shortest_cuts(rows)) >= least_blocks:
+        if len(rows) <= most_rows and shortest_count(rows) > 1 and len(ades.shortest_cuts(rows)) >= least_blocks:
             found += 1
             yield from pack_cases(chance, random_layout(chance, rows))
 
@@ -198,7 +288,7 @@ def long_runs(chance, wanted):
     while found < wanted:
         rows = []
         for _ in range(chance.randint(4, 8)):
-            shape = chance.choice((*far_shapes(chance), set(ELEMENTS)))
+            shape = chance.choice((*far_shapes(chance), OPTICAL))
             rows += [of_shape(shape)] * chance.randint(1, 9)
         if len(rows) <= 40 and len(ades.shortest_cuts(rows)) >= 3 and (found % 4 or shortest_count(rows) > 1):
             found += 1
@@ -245,6 +335,25 @@ def greedy_fails(chance, joiner, wanted):
             yield from pack_cases(chance, random_layout(chance, rows))
 
 
+def radar_runs(chance, wanted):
+    """Up to sixty rows in runs, optical ones among them, whose radar rows take several blocks; every second time
+    joining row by row, kind by kind, gives a longer text."""
+    kinds = (delay_row(), doppler_row(), whole_delay_row(), whole_doppler_row(), delay_row(prog=b"01", notes=b"K"),
+             row())
+    found = 0
+    while found < wanted:
+        rows = []
+        for _ in range(chance.randint(3, 6)):
+            rows += [chance.choice(kinds)] * chance.choice((1, 2, 5, 9, 14))
+        parts = stretches(rows)
+        joined = [count for part in parts for count in joined_row_by_row(part)]
+        is_cut = any(ades.is_radar(part[0]) and len(ades.shortest_cuts(part)) > 1 for part in parts)
+        is_longer = len(ades.written(rows, joined)) > len(ades.written(rows, ades.shortest_cuts(rows)))
+        if len(rows) <= 60 and is_cut and (found % 2 or is_longer):
+            found += 1
+            yield from pack_cases(chance, random_layout(chance, rows))
+
+
 # ---- many rows, and mixes by chance
 
 def many_rows(chance):
@@ -258,16 +367,24 @@ def many_rows(chance):
     runs = [narrow] * 60 + [wide] * 3 + [narrow] * 21 + [wide] * 70 + [narrow] * 102
     yield from pack_cases(chance, block(runs), 2)
     yield from pack_cases(chance, filled(FULL, TEXT_LIMIT))
+    yield from pack_cases(chance, FULL_OF_RADAR, 2)
+    radar, shifted = small_radar_row(), small_radar_row(delay=None, rmsDelay=None, doppler=b"1", rmsDoppler=b"1")
+    in_turn = [narrow, radar] * (ROW_LIMIT // 2)
+    assert ades.shortest_cuts(in_turn) == [1] * ROW_LIMIT
+    yield from pack_cases(chance, b"".join(block([each]) for each in in_turn), 2)
+    yield from pack_cases(chance, block([radar, shifted] * (ROW_LIMIT // 2)))
+    runs = [narrow] * 50 + [radar] * 30 + [shifted] * 30 + [narrow] * 3 + [wide] * 80 + [radar] * 4 + [shifted] * 59
+    yield from pack_cases(chance, b"".join(map(block, stretches(runs))), 2)
 
 
 def mixes(chance):
     """One to twelve rows of a few shapes, laid out by chance."""
     for _ in range(110):
-        shapes = [random_shape(chance) for _ in range(chance.choice((1, 2, 3, 5)))]
+        shapes = random_shapes(chance, chance.choice((1, 2, 3, 5)))
         rows = random_rows(chance, chance.choice((1, 2, 3, 4, 5, 6, 7, 8, 9, 9, 10, 12)), shapes)
         yield from pack_cases(chance, random_layout(chance, rows), chance.choice((1, 1, 1, 2)))
     for _ in range(12):
-        rows = [random_row(chance, chance.choice((NARROW, set(ELEMENTS) - {29}))) for _ in range(chance.randint(2, 9))]
+        rows = [random_row(chance, chance.choice((NARROW, OPTICAL - {29}))) for _ in range(chance.randint(2, 9))]
         yield from pack_cases(chance, block(rows, shuffled_columns(chance, rows)))
 
 
@@ -277,12 +394,18 @@ def cases(chance):
     yield from refused(chance)
     yield from layouts(chance)
     yield from bare_points(chance)
+    yield from nights(chance)
+    yield from radar_layouts(chance)
+    yield from mixed_nights(chance)
+    yield from shortest_mixed(chance, 20)
     yield from two_kinds_in_turn(chance)
     yield from far_apart(chance, 40)
     yield from ties(chance, one_block_as_long_as_two, 1, 20)
     yield from ties(chance, between_two_wide_ones, 2, 16)
+    yield from ties(chance, radar_block_as_long_as_two, 1, 10, 28)
     yield from long_runs(chance, 16)
     yield from greedy_fails(chance, joined_row_by_row, 15)
     yield from greedy_fails(chance, joined_pair_by_pair, 10)
+    yield from radar_runs(chance, 14)
     yield from many_rows(chance)
     yield from mixes(chance)

@@ -1,4 +1,4 @@
-"""Cases on which of two refusals comes first, and on what one observation must hold.
+"""Cases on which of two refusals comes first, on what one observation must hold, and on the kinds of observations.
 
 The refusal of each report is written by hand or follows from the order in which the faults are listed;
 the reference has to agree before a case is made.
@@ -8,16 +8,22 @@ from itertools import combinations
 
 import ades
 from ades import ELEMENTS, NUMBERS, refused
-from reports import COLUMNS, ROW, SPECIMEN, VERSION, block, line_of, names_of, row, to_check, whole_row
+from reports import (COLUMNS, DELAY_ROW, DELAY_SPECIMEN, ROW, SPECIMEN, VERSION, block, delay_row, doppler_row, line_of,
+                     names_of, row, small_radar_row, small_row, to_check, whole_delay_row, whole_doppler_row, whole_row)
 
 # ---- faults on one data line, in the order in which they decide
 
-WHAT_MAKES_THEM = [
+OF_THE_LINE = [
     # number, place, what is done to the line, what is done to the observation
     (2, 0, "no LF", {}),
     (3, 0, "bad byte", {}),
     (4, 0, "# first", {}),
     (18, 0, "one field more", {}),
+]
+# The last fault of a line: the block's first row is of the other kind.
+MIXED = (21, 0, "other kind first", {})
+
+WHAT_MAKES_THEM = OF_THE_LINE + [
     (9, 1, "", {"permID": b"0"}),
     (8, 4, "", {"trkSub": b"abcdefghi"}),
     (9, 5, "", {"obsID": b"a-b"}),
@@ -39,15 +45,55 @@ WHAT_MAKES_THEM = [
     (12, 25, "", {"band": None}),
     (12, 20, "", {"rmsDec": None}),
     (13, 10, "", {"ctr": b"398"}),
+    MIXED,
 ]
-FIELD_FAULTS = [fault for fault in WHAT_MAKES_THEM if fault[0] in (8, 9, 10)]
+
+# The same for radar observations of a delay, and of a Doppler shift.
+OF_A_DELAY = [
+    (4, 0, "# first", {}),
+    (18, 0, "one field more", {}),
+    (8, 4, "", {"trkSub": b"abcdefghi"}),
+    (9, 17, "", {"ra": b"+1"}),
+    (8, 30, "", {"trx": b"25"}),
+    (9, 32, "", {"delay": b"-12.5"}),
+    (8, 35, "", {"rmsDoppler": b"1234567"}),
+    (10, 37, "", {"com": b"2"}),
+    (22, 3, "", {"artSat": b"1998-067A"}),
+    (22, 4, "", {"trkSub": b"a1"}),
+    (22, 10, "", {"ctr": b"398"}),
+    (22, 27, "", {"photAp": b"1"}),
+    (22, 35, "", {"rmsDoppler": b"1"}),
+    (11, 1, "", {"permID": None, "provID": None}),
+    (11, 15, "", {"obsTime": None}),
+    (11, 30, "", {"trx": None}),
+    (11, 31, "", {"rcv": None}),
+    (11, 32, "", {"delay": None}),
+    (11, 33, "", {"rmsDelay": None}),
+    (11, 36, "", {"frq": None}),
+    (11, 37, "", {"com": None}),
+    MIXED,
+]
+OF_A_DOPPLER_SHIFT = [
+    (9, 34, "", {"doppler": b"--1"}),
+    (10, 35, "", {"rmsDoppler": b"0"}),
+    (10, 37, "", {"com": b"00"}),
+    (22, 26, "", {"photCat": b"Gaia2"}),
+    (22, 32, "", {"delay": b"1"}),
+    (22, 33, "", {"rmsDelay": b"1"}),
+    (11, 1, "", {"permID": None, "provID": None}),
+    (11, 31, "", {"rcv": None}),
+    (11, 35, "", {"rmsDoppler": None}),
+    (11, 36, "", {"frq": None}),
+    (11, 37, "", {"com": None}),
+    MIXED,
+]
 
 
-def line_with(faults, columns):
-    """A data line of all elements with these faults on it."""
+def line_with(faults, columns, whole=whole_row):
+    """A data line of all that the kind may hold, with these faults on it."""
     changes = {name: value for _, _, _, changed in faults for name, value in changed.items()}
     doings = [doing for _, _, doing, _ in faults]
-    observation = whole_row(**changes)
+    observation = whole(**changes)
     line = line_of([observation.get(element, b"") for element in columns])
     if "one field more" in doings:
         line = line[:-1] + b"|\n"
@@ -63,20 +109,24 @@ def meet(faults):
     return not set(faults[0][3]) & set(faults[1][3])
 
 
-def one_data_line():
-    """Every pair of faults on one data line; the earlier in the list decides."""
+def one_data_line(possible, whole, other):
+    """Every pair of the faults that are possible on one data line; the earlier in the list decides."""
     columns = list(ELEMENTS)
     head = VERSION + line_of(names_of(columns))
-    for faults in combinations(WHAT_MAKES_THEM, 2):
+    for faults in combinations(possible, 2):
         if meet(faults):
             number, place, _, _ = faults[0]
-            yield head + line_with(faults, columns), (number, 3, place)
+            line = line_with(faults, columns, whole)
+            if MIXED in faults:
+                yield head + line_with([], columns, other) + line, (number, 4, place)
+            else:
+                yield head + line, (number, 3, place)
     columns.reverse()
     head = SPECIMEN + VERSION + line_of(names_of(columns))
-    for faults in combinations(FIELD_FAULTS, 2):
+    for faults in combinations([fault for fault in possible if fault[0] in (8, 9, 10)], 2):
         if meet(faults):
             number, element, _, _ = faults[1]
-            yield head + line_with(faults, columns), (number, 6, columns.index(element) + 1)
+            yield head + line_with(faults, columns, whole), (number, 6, columns.index(element) + 1)
 
 
 # Faults of one value that meet: which number it gets.
@@ -93,11 +143,26 @@ ONE_VALUE = [
 ]
 
 
+# The same for radar's elements.
+ONE_RADAR_VALUE = [
+    ("trx", b"2-", 9), ("trx", b"25-12", 9), ("rcv", b"2", 8), ("rcv", b"25312-", 9), ("delay", b"-00000000000000", 8),
+    ("delay", b"-0000000000000", 9), ("delay", b"00000000000000", 10), ("delay", b"0000000000000..", 8),
+    ("delay", b"000000000000..", 9), ("rmsDelay", b"-0000..", 8), ("rmsDelay", b"0000..", 9),
+    ("rmsDelay", b"-00000", 9), ("doppler", b"+-12345678901234", 8), ("doppler", b"+-1234567890123", 9),
+    ("doppler", b"-12345678901234.", 8), ("doppler", b"-123456789012..", 9), ("rmsDoppler", b"+000000", 8),
+    ("rmsDoppler", b"+00000", 9), ("frq", b"-8559.999999999", 8), ("frq", b"-8559.99999999", 9),
+    ("frq", b"0.0000000000000", 8), ("com", b"2-", 10), ("com", b"-" * 30, 10), ("com", b"00", 10),
+    ("com", b"." * 15, 10),
+]
+
+
 def one_value():
     """Values with several faults of their own."""
     for name, value, number in ONE_VALUE:
         observation = whole_row(**{name: value})
         yield block([observation]), (number, 3, NUMBERS[name.encode()])
+    for name, value, number in ONE_RADAR_VALUE:
+        yield block([whole_delay_row(**{name: value})], list(ELEMENTS)), (number, 3, NUMBERS[name.encode()])
 
 
 # ---- what one observation must hold: 11, 12 and 13
@@ -127,11 +192,160 @@ HOLDING = [
     (b"WGS84", b"3990", (13, 10)), (b"WGS84", b"39", (13, 10)), (b"ITRF", b"398", None), (b"ICRF_KM", b"0", None))]
 
 
+# What a radar observation must hold: 22 and 11.
+HOLDING_A_DELAY = [
+    ({}, None), ({"permID": None}, (11, 1)), ({"permID": None, "provID": b"2016 AZ"}, None),
+    ({"provID": b"2016 AZ"}, None), ({"permID": None, "trkSub": b"a1"}, (22, 4)),
+    ({"permID": None, "artSat": b"1998-067A"}, (22, 3)), ({"permID": None, "obsTime": None}, (11, 1)),
+    ({"permID": None, "com": None}, (11, 1)), ({"obsTime": None}, (11, 15)), ({"trx": None}, (11, 30)),
+    ({"rcv": None}, (11, 31)), ({"delay": None}, (11, 32)), ({"rmsDelay": None}, (11, 33)), ({"frq": None}, (11, 36)),
+    ({"com": None}, (11, 37)), ({"obsTime": None, "trx": None}, (11, 15)), ({"trx": None, "rcv": None}, (11, 30)),
+    ({"rcv": None, "delay": None}, (11, 31)), ({"delay": None, "rmsDelay": None}, (11, 32)),
+    ({"rmsDelay": None, "frq": None}, (11, 33)), ({"delay": None, "frq": None}, (11, 32)),
+    ({"frq": None, "com": None}, (11, 36)),
+    # With doppler present, 32 and 33 are foreign.
+    ({"doppler": b"1"}, (22, 32)), ({"doppler": b"1", "rmsDoppler": b"1"}, (22, 32)),
+    ({"doppler": b"1", "rmsDelay": None}, (22, 32)), ({"doppler": b"1", "delay": None}, (22, 33)),
+    ({"doppler": b"0", "delay": None}, (22, 33)), ({"doppler": b"1", "delay": None, "rmsDelay": None}, (11, 35)),
+    ({"doppler": b"1", "rmsDoppler": b"1", "delay": None, "rmsDelay": None}, None),
+    # Without it 34 and 35 are.
+    ({"rmsDoppler": b"1"}, (22, 35)), ({"rmsDoppler": b"1", "rmsDelay": None}, (22, 35)),
+    ({"rmsDoppler": b"1", "delay": None, "rmsDelay": None}, (22, 35)), ({"rmsDoppler": b"1", "permID": None}, (22, 35)),
+    ({"rmsDoppler": b"1", "photAp": b"1"}, (22, 27)), ({"rmsDoppler": b"1", "com": None}, (22, 35)),
+    # One radar element alone.
+    ({"trx": None, "rcv": None, "delay": None, "rmsDelay": None, "frq": None}, (11, 30)),
+    ({"rcv": None, "delay": None, "rmsDelay": None, "frq": None, "com": None}, (11, 31)),
+    ({"trx": None, "delay": None, "rmsDelay": None, "frq": None, "com": None}, (11, 30)),
+    ({"trx": None, "rcv": None, "rmsDelay": None, "frq": None, "com": None}, (11, 30)),
+    ({"trx": None, "rcv": None, "delay": None, "frq": None, "com": None}, (11, 30)),
+    ({"trx": None, "rcv": None, "delay": None, "rmsDelay": None, "com": None}, (11, 30)),
+    ({"permID": None, "trx": None, "rcv": None, "delay": None, "rmsDelay": None, "frq": None}, (11, 1)),
+    # What is allowed, and what optical rules would say otherwise.
+    ({"obsID": b"x"}, None), ({"obsSubID": b"-"}, None), ({"prog": b"1"}, None), ({"notes": b"K"}, None),
+    ({"remarks": b"#"}, None), ({"mag": b"1"}, (22, 23)), ({"band": b"G"}, (22, 25)), ({"rmsCorr": b"0"}, (22, 21)),
+    ({"pos3": b"1"}, (22, 13)), ({"sys": b"WGS84", "ctr": b"398", "pos1": b"1", "pos2": b"1", "pos3": b"1"}, (22, 9)),
+    ({"mag": b"1", "permID": None}, (22, 23)), ({"photAp": b"1", "com": None}, (22, 27)),
+]
+HOLDING_A_DOPPLER_SHIFT = [
+    ({}, None), ({"doppler": b"0"}, None), ({"doppler": b"-0.0"}, None), ({"permID": None}, (11, 1)),
+    ({"permID": None, "provID": b"C/1999 K7"}, None), ({"obsTime": None}, (11, 15)), ({"trx": None}, (11, 30)),
+    ({"rcv": None}, (11, 31)), ({"rmsDoppler": None}, (11, 35)), ({"frq": None}, (11, 36)), ({"com": None}, (11, 37)),
+    ({"rcv": None, "rmsDoppler": None}, (11, 31)), ({"rmsDoppler": None, "frq": None}, (11, 35)),
+    ({"rmsDoppler": None, "com": None}, (11, 35)), ({"doppler": None}, (22, 35)),
+    ({"doppler": None, "delay": b"1"}, (22, 35)), ({"doppler": None, "delay": b"1", "rmsDelay": b"1"}, (22, 35)),
+    ({"doppler": None, "rmsDoppler": None}, (11, 32)), ({"doppler": None, "rmsDoppler": None, "delay": b"1"}, (11, 33)),
+    ({"doppler": None, "rmsDoppler": None, "rmsDelay": b"1"}, (11, 32)),
+    ({"doppler": None, "rmsDoppler": None, "delay": b"1", "rmsDelay": b"1"}, None),
+    ({"delay": b"1"}, (22, 32)), ({"rmsDelay": b"1"}, (22, 33)), ({"delay": b"1", "rmsDelay": b"1"}, (22, 32)),
+    ({"delay": b"1", "rmsDoppler": None}, (22, 32)), ({"rmsDelay": b"1", "permID": None}, (22, 33)),
+    ({"delay": b"1", "trkSub": b"a1"}, (22, 4)), ({"rmsDelay": b"1", "photAp": b"1"}, (22, 27)),
+    ({"trx": None, "rcv": None, "rmsDoppler": None, "frq": None, "com": None}, (11, 30)),
+    ({"trx": None, "rcv": None, "doppler": None, "frq": None, "com": None}, (22, 35)),
+    ({"obsID": b"x"}, None), ({"obsSubID": b"-"}, None), ({"prog": b"1"}, None), ({"notes": b"K"}, None),
+    ({"remarks": b"#"}, None), ({"mode": b"CCD", "stn": b"W84"}, (22, 7)), ({"astCat": b"u", "frq": None}, (22, 22)),
+]
+
+
 def holding():
-    """Observations that lack something, as the second row of a report with all columns."""
-    for changes, lack in HOLDING:
-        report = block([row(), row(**changes)], sorted(NUMBERS.values()))
-        yield report, (lack[0], 4, lack[1]) if lack else None
+    """Observations that lack something, as the second row of a report with all columns; what they lack, or what is
+    foreign to them, comes before 21 where the first row is of the other kind."""
+    columns = sorted(NUMBERS.values())
+    for own, other, table in ((row, delay_row, HOLDING), (delay_row, row, HOLDING_A_DELAY),
+                              (doppler_row, row, HOLDING_A_DOPPLER_SHIFT)):
+        for changes, lack in table:
+            yield block([own(), own(**changes)], columns), (lack[0], 4, lack[1]) if lack else None
+            yield block([other(), own(**changes)], columns), (lack[0], 4, lack[1]) if lack else (21, 4, 0)
+
+
+# ---- elements foreign to their kind: 22
+
+FOREIGN = ("artSat", "trkSub", "mode", "stn", "sys", "ctr", "pos1", "pos2", "pos3", "rmsTime", "ra", "dec", "rmsRA",
+           "rmsDec", "rmsCorr", "astCat", "mag", "rmsMag", "band", "photCat", "photAp")
+RADAR_VALUES = {"trx": b"251", "rcv": b"253", "delay": b"12.5", "rmsDelay": b"0.5", "doppler": b"-0.25",
+                "rmsDoppler": b"0.2", "frq": b"8560", "com": b"0"}
+
+
+def foreign():
+    """Each foreign element alone, the columns from last to first, and all from each one on; the place is the lowest
+    number. Then each radar element in an optical row, and all elements in one row."""
+    optical = {ELEMENTS[number][0].decode(): value for number, value in whole_row().items()}
+    for own, more in ((delay_row, {"rmsDoppler": b"1"}), (doppler_row, {"delay": b"1", "rmsDelay": b"1"})):
+        strange = [(name, optical[name]) for name in FOREIGN] + list(more.items())
+        for at, (name, value) in enumerate(strange):
+            place, alone = NUMBERS[name.encode()], own(**{name: value})
+            yield block([alone], sorted(alone, reverse=True)), (22, 3, place)
+            yield block([own(), own(**dict(strange[at:]))]), (22, 4, place)
+    for name, value in RADAR_VALUES.items():
+        yield block([row(**{name: value})]), (22, 3, 4)
+        yield block([row(), row(permID=b"1", trkSub=None, **{name: value})]), (22, 4, 7)
+        yield block([whole_row(**{name: value})]), (22, 3, 3)
+    yield block([whole_row(**RADAR_VALUES)]), (22, 3, 3)
+    yield block([{**whole_row(), **whole_delay_row()}], sorted(ELEMENTS, reverse=True)), (22, 3, 3)
+
+
+# ---- a block holds one kind: 21
+
+# The rows of each block, o optical, r of a delay, d of a Doppler shift; the line of 21, or None.
+KINDS = [
+    ("o", None), ("r", None), ("d", None), ("rd", None), ("dr", None), ("rdr", None), ("o r", None), ("r o", None),
+    ("o r o d", None), ("oo rr dd o", None), ("rd o dr o", None), ("r d r d", None), ("o o r r", None),
+    ("or", 4), ("ro", 4), ("od", 4), ("do", 4), ("oro", 4), ("ror", 4), ("orr", 4), ("roo", 4), ("oor", 5), ("rro", 5),
+    ("rdo", 5), ("dro", 5), ("oooord", 7), ("rrddro", 8), ("o or", 7), ("o ro", 7), ("r ro", 7), ("r or", 7),
+    ("d od", 7), ("oo rro o", 9), ("rr o or", 11), ("o r d o ro", 16), ("or or", 4), ("o r oro r", 10),
+    ("ooooooooor", 12), ("rrrrrrrrro", 12),
+]
+
+
+def kinds():
+    """These, with the columns that are needed and with all of them from last to first."""
+    rows = {"o": row(), "r": delay_row(), "d": doppler_row()}
+    for spelt, line in KINDS:
+        for columns in (None, sorted(ELEMENTS, reverse=True)):
+            report = b"".join(block([rows[letter] for letter in part], columns) for part in spelt.split())
+            yield report, (21, line, 0) if line else None
+
+
+def near_mixed_blocks():
+    """21 and faults of the lines before it and after it; values that are blank do not make a kind."""
+    wide = sorted(ELEMENTS)
+    mixed = block([row(), delay_row()], wide)
+    empty = b"|" * (len(ELEMENTS) - 1)
+    yield mixed + b"a", (21, 4, 0)
+    yield mixed + b"\x00\n", (21, 4, 0)
+    yield mixed + b"#\n", (21, 4, 0)
+    yield mixed + b"|\n", (21, 4, 0)
+    yield mixed + empty + b"2\n", (21, 4, 0)
+    yield mixed + VERSION, (21, 4, 0)
+    yield mixed[:-1], (2, 4, 0)
+    yield block([row(), row(ra=b"05"), delay_row()], wide), (9, 4, 17)
+    yield block([row(), row(mode=None), delay_row()], wide), (11, 4, 7)
+    yield block([row(mode=None), delay_row()], wide), (11, 3, 7)
+    yield block([delay_row(), delay_row(com=b"2"), row()], wide), (10, 4, 37)
+    yield block([delay_row(), delay_row(ra=b"1"), row()], wide), (22, 4, 17)
+    yield block([delay_row(ra=b"1"), row()], wide), (22, 3, 17)
+    yield block([delay_row(frq=None), row()], wide), (11, 3, 36)
+    yield block([row(), row()], wide) + empty + b"\n", (11, 5, 1)
+    yield block([delay_row()], wide) + empty + b"\n", (11, 4, 1)
+    yield block([delay_row()], wide) + empty + b"0\n", (11, 4, 1)
+    yield block([row()], wide) + empty + b"0\n", (11, 4, 1)
+    yield SPECIMEN + DELAY_ROW, (18, 4, 0)
+    yield DELAY_SPECIMEN + ROW, (18, 4, 0)
+    head = VERSION + b"com|" + COLUMNS
+    yield head + b"|" + ROW + b"   |" + ROW, None
+    yield head + b"|" + ROW + b" 1 |" + ROW, (22, 4, 4)
+    yield head + b"0|" + ROW, (22, 3, 4)
+    # Optical and radar rows with the same columns in use: the value decides, not the column.
+    both = [1, 4, 7, 8, 15, 17, 18, 22, *ades.RADAR]
+    yield block([row(), row(permID=b"1")], both), None
+    yield block([delay_row(), doppler_row()], both), None
+    yield block([delay_row()], both) + block([row()], both), None
+    yield block([delay_row(), row()], both), (21, 4, 0)
+    # The last row that may stand is looked at like any other.
+    yield block([small_row()] * 255 + [small_radar_row()]), (21, 258, 0)
+    yield block([small_radar_row()] * 255 + [small_row()]), (21, 258, 0)
+    yield block([small_radar_row()] * 256 + [small_row()]), (14, 259, 0)
+    yield block([small_row()] * 256 + [small_radar_row()]), (14, 259, 0)
+    yield block([small_radar_row()] * 256) + block([small_row()]), (14, 261, 0)
 
 
 # ---- faults on different lines: the earlier line decides
@@ -150,6 +364,8 @@ FAULTY_BLOCKS = [
     (11, 7, 3, block([row(mode=None)])),
     (12, 25, 3, block([row(mag=b"20")])),
     (13, 10, 3, block([whole_row(ctr=b"398")])),
+    (22, 4, 3, block([delay_row(trkSub=b"a1")])),
+    (21, 0, 4, block([row(), delay_row()])),
 ]
 
 
@@ -163,9 +379,14 @@ def two_blocks():
 
 def with_answers():
     """The reports of this file, each with its refusal or None."""
-    yield from one_data_line()
+    yield from one_data_line(WHAT_MAKES_THEM, whole_row, whole_delay_row)
+    yield from one_data_line(OF_A_DELAY, whole_delay_row, whole_row)
+    yield from one_data_line(OF_A_DOPPLER_SHIFT, whole_doppler_row, whole_row)
     yield from one_value()
     yield from holding()
+    yield from foreign()
+    yield from kinds()
+    yield from near_mixed_blocks()
     yield from two_blocks()
 
 

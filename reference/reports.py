@@ -4,7 +4,9 @@ A row is a dictionary from element number to value, as the reference reads it. `
 `random.Random` made from a fixed seed, so each run gives the same reports.
 """
 
-from ades import ELEMENTS, LOCATION, NUMBERS, columns_of
+from itertools import groupby
+
+from ades import ELEMENTS, LOCATION, NUMBERS, columns_of, is_radar, parted
 from values import ALPHANUMERICS, CAPITALS, DIGITS, days_in_month
 
 # The specimen's three lines.
@@ -12,6 +14,14 @@ VERSION = b"# version=2022\n"
 COLUMNS = b"trkSub|mode|stn|obsTime|ra|dec|astCat\n"
 ROW = b"a1|CCD|W84|2024-03-01T04:05:06.5Z|10.5|-0.25|Gaia2\n"
 SPECIMEN = VERSION + COLUMNS + ROW
+
+# Radar observations in the same way, of a delay and of a Doppler shift.
+DELAY_COLUMNS = b"permID|obsTime|trx|rcv|delay|rmsDelay|frq|com\n"
+DELAY_ROW = b"433|2024-03-01T04:05:06.5Z|251|253|12.5|0.5|8560|1\n"
+DELAY_SPECIMEN = VERSION + DELAY_COLUMNS + DELAY_ROW
+DOPPLER_COLUMNS = b"permID|obsTime|trx|rcv|doppler|rmsDoppler|frq|com\n"
+DOPPLER_ROW = b"433|2024-03-01T04:05:06.5Z|251|253|-0.25|0.2|2380|0\n"
+DOPPLER_SPECIMEN = VERSION + DOPPLER_COLUMNS + DOPPLER_ROW
 
 # A case is a letter, two numbers and two texts, of which the second is empty but where a record is written.
 
@@ -53,12 +63,27 @@ def to_read(lent, number):
 
 # ---- rows and blocks
 
+def by_number(values):
+    """The row with these values by name, less those that are None."""
+    return {NUMBERS[name.encode()]: value for name, value in values.items() if value is not None}
+
+
 def row(**changes):
     """The specimen's observation with elements changed, added, or taken away by None."""
-    specimen = {"trkSub": b"a1", "mode": b"CCD", "stn": b"W84", "obsTime": b"2024-03-01T04:05:06.5Z",
-                "ra": b"10.5", "dec": b"-0.25", "astCat": b"Gaia2"}
-    specimen.update(changes)
-    return {NUMBERS[name.encode()]: value for name, value in specimen.items() if value is not None}
+    return by_number({"trkSub": b"a1", "mode": b"CCD", "stn": b"W84", "obsTime": b"2024-03-01T04:05:06.5Z",
+                      "ra": b"10.5", "dec": b"-0.25", "astCat": b"Gaia2", **changes})
+
+
+def delay_row(**changes):
+    """The radar observation of a delay, with elements changed, added, or taken away by None."""
+    return by_number({"permID": b"433", "obsTime": b"2024-03-01T04:05:06.5Z", "trx": b"251", "rcv": b"253",
+                      "delay": b"12.5", "rmsDelay": b"0.5", "frq": b"8560", "com": b"1", **changes})
+
+
+def doppler_row(**changes):
+    """The radar observation of a Doppler shift, in the same way."""
+    return by_number({"permID": b"433", "obsTime": b"2024-03-01T04:05:06.5Z", "trx": b"251", "rcv": b"253",
+                      "doppler": b"-0.25", "rmsDoppler": b"0.2", "frq": b"2380", "com": b"0", **changes})
 
 
 PLACED = {"sys": b"WGS84", "ctr": b"399", "pos1": b"-110.79", "pos2": b"+32.4", "pos3": b"2510"}
@@ -67,7 +92,11 @@ SURE = {"rmsRA": b"0.1", "rmsDec": b"0.2", "rmsCorr": b"-0.5"}
 
 
 def row_with(name, value):
-    """The specimen's observation with this value and what must stand beside it."""
+    """The specimen's observation, or a radar one, with this value and what must stand beside it."""
+    if name in ("doppler", "rmsDoppler"):
+        return doppler_row(**{name: value})
+    if name in ("trx", "rcv", "delay", "rmsDelay", "frq", "com"):
+        return delay_row(**{name: value})
     beside = {}
     for group in (PLACED, MEASURED, SURE):
         if name in group:
@@ -78,10 +107,30 @@ def row_with(name, value):
 
 
 def whole_row(**changes):
-    """An observation with all 29 elements present, with elements changed or taken away."""
+    """An optical observation with elements 1 to 29 present, with elements changed or taken away."""
     rest = {"permID": b"123P-A", "provID": b"2016 AZ6", "artSat": b"1998-067A", "obsID": b"x_1",
             "obsSubID": b"n 7", "prog": b"01", "rmsTime": b"0.5", "notes": b"K", "remarks": b"clear sky"}
     return row(**{**rest, **PLACED, **MEASURED, **SURE, **changes})
+
+
+ALLOWED = {"provID": b"2016 AZ6", "obsID": b"x_1", "obsSubID": b"n 7", "prog": b"01", "notes": b"K",
+           "remarks": b"clear sky"}
+
+
+def whole_delay_row(**changes):
+    """A radar observation of a delay with all that is allowed in it, with elements changed or taken away."""
+    return delay_row(**{**ALLOWED, **changes})
+
+
+def whole_doppler_row(**changes):
+    """A radar observation of a Doppler shift in the same way."""
+    return doppler_row(**{**ALLOWED, **changes})
+
+
+def small_radar_row(**changes):
+    """A radar observation of few bytes."""
+    return delay_row(**{"permID": b"1", "obsTime": b"2024-03-01T04:05:06Z", "trx": b"abc", "rcv": b"abc",
+                        "delay": b"1", "rmsDelay": b"1", "frq": b"1", **changes})
 
 
 def small_row(**changes):
@@ -134,14 +183,23 @@ def random_cuts(chance, count):
     return cuts
 
 
+def stretches(rows):
+    """The rows parted where their kind changes."""
+    return [list(stretch) for _, stretch in groupby(rows, is_radar)]
+
+
+def random_block(chance, rows):
+    """The rows in one block, its columns in any order, some of them perhaps empty, perhaps padded."""
+    columns = shuffled_columns(chance, rows, chance.choice((0, 0, 1, 3)))
+    return block(rows, columns, chance if chance.random() < 0.5 else None)
+
+
 def random_layout(chance, rows):
-    """The same observations cut, ordered and padded by chance."""
-    text, first = b"", 0
-    for count in random_cuts(chance, len(rows)):
-        part = rows[first:first + count]
-        columns = shuffled_columns(chance, part, chance.choice((0, 0, 1, 3)))
-        text += block(part, columns, chance if chance.random() < 0.5 else None)
-        first += count
+    """The same observations cut, ordered and padded by chance; no block mixes kinds."""
+    text = b""
+    for stretch in stretches(rows):
+        for part in parted(stretch, random_cuts(chance, len(stretch))):
+            text += random_block(chance, part)
     return text
 
 
@@ -204,6 +262,8 @@ def random_value(chance, element):
         return chance.choice(details[0].split())
     if form.__name__ == "positive_decimal":
         return random_number(chance, details[0])
+    if form.__name__ == "flag":
+        return chance.choice((b"0", b"1"))
     if form.__name__ == "signed_decimal":
         return random_sign(chance) + random_number(chance, details[0])
     return {
@@ -221,7 +281,7 @@ def random_value(chance, element):
 
 
 def random_shape(chance):
-    """A set of elements that one observation may hold."""
+    """A set of elements that one optical observation may hold."""
     shape = {7, 8, 15, 17, 18, 22} | set(chance.sample((1, 2, 3, 4), chance.choice((1, 1, 2))))
     if chance.random() < 0.3:
         shape |= set(LOCATION)
@@ -230,6 +290,20 @@ def random_shape(chance):
     if chance.random() < 0.4:
         shape |= {19, 20} | set(chance.sample((21,), chance.randint(0, 1)))
     return shape | set(chance.sample((5, 6, 14, 16, 28, 29), chance.choice((0, 0, 1, 2, 4))))
+
+
+def random_radar_shape(chance):
+    """A set of elements that one radar observation may hold."""
+    shape = {15, 30, 31, 36, 37} | set(chance.choice(((1,), (1,), (2,), (1, 2))))
+    shape |= set(chance.choice(((32, 33), (34, 35))))
+    return shape | set(chance.sample((5, 6, 14, 28, 29), chance.choice((0, 0, 1, 2, 4))))
+
+
+def random_shapes(chance, count):
+    """So many shapes: optical ones, radar ones, or some of each."""
+    optical, radar = (random_shape,), (random_radar_shape,)
+    kinds = chance.choice((optical, radar, optical + radar, radar + optical))
+    return [kinds[number % len(kinds)](chance) for number in range(count)]
 
 
 def random_row(chance, shape):

@@ -1,4 +1,5 @@
-"""Sums of document 01 and of order 2, and checks of the reference against itself, made before any case is written."""
+"""Sums of document 01 and of orders 2 and 3, and checks of the reference against itself, made before any case is
+written."""
 
 import datetime
 import decimal
@@ -8,7 +9,8 @@ import re
 import ades
 import night
 import values
-from reports import PLACED, SPECIMEN, block, random_layout, random_rows, random_shape, row, row_with, small_row
+from reports import (DELAY_ROW, DELAY_SPECIMEN, DOPPLER_SPECIMEN, PLACED, SPECIMEN, block, delay_row, doppler_row,
+                     random_layout, random_rows, random_shape, random_shapes, row, row_with, small_row)
 
 
 def fault(element, text):
@@ -53,6 +55,45 @@ def sums_of_decimals():
     assert worth("dec", b"-.5") == ("angle", -500_000_000) and worth("dec", b"90.") == ("angle", 90_000_000_000)
     assert worth("rmsCorr", b"-1.") == ("decimal", -1, 0) and fault("rmsCorr", b"2.") == 10
     assert fault("ctr", b"301.") == fault("ctr", b".5") == fault("obsTime", b"2024-03-01T04:05:06.Z") == 9
+
+
+def sums_of_radar():
+    """Order 3: the forms of its elements; 17; what a radar observation has and what is foreign to it; kinds in one
+    block; how long a mixed report is; 23 between 16 and 19."""
+    for name in ("trx", "rcv"):
+        assert fault(name, b"251") == fault(name, b"a_bc") == 0 and fault(name, b"25") == fault(name, b"25112") == 8
+        assert fault(name, b"2-1") == 9 and worth(name, b"251") == ("no value",)
+    for name, width in (("delay", 14), ("rmsDelay", 6), ("rmsDoppler", 6), ("frq", 14)):
+        assert fault(name, b"9" * width) == 0 and fault(name, b"9" * width + b".") == 8
+        assert fault(name, b"-1") == fault(name, b"+1") == fault(name, b".") == 9 and fault(name, b"0.0") == 10
+        assert worth(name, b"1.50") == ("decimal", 150, 2)
+    assert worth("doppler", b"-" + b"9" * 14) == ("decimal", 1 - 10 ** 14, 0) and fault("doppler", b"9" * 15) == 8
+    assert worth("doppler", b"-0.25") == ("decimal", -25, 2) and worth("doppler", b"0") == ("decimal", 0, 0)
+    assert fault("doppler", b"--1") == 9 and fault("com", b"0") == fault("com", b"1") == 0
+    for text in (b"2", b"00", b"01", b"-", b"1.", b"0" * 400):
+        assert fault("com", text) == 10
+    assert worth("com", b"1") == ("no value",)
+    assert ades.showing(SPECIMEN, 1, 37) == ("absent",) and ades.showing(SPECIMEN, 1, 38) == ades.refused(17, 0, 0)
+    for rows, refusal in (
+            ([delay_row()], None), ([doppler_row()], None), ([delay_row(), doppler_row()], None),
+            ([delay_row(trkSub=b"a1")], (22, 3, 4)), ([row(com=b"0")], (22, 3, 4)),
+            ([doppler_row(delay=b"1", rmsDoppler=None)], (22, 3, 32)), ([doppler_row(doppler=None)], (22, 3, 35)),
+            ([delay_row(permID=None)], (11, 3, 1)), ([delay_row(delay=None)], (11, 3, 32)),
+            ([delay_row(delay=None, rmsDelay=None)], (11, 3, 32)), ([doppler_row(rmsDoppler=None)], (11, 3, 35)),
+            ([row(), delay_row()], (21, 4, 0)), ([delay_row(), doppler_row(), row()], (21, 5, 0)),
+            ([row(), delay_row(com=None)], (11, 4, 37)), ([delay_row(), row(mag=b"1")], (12, 4, 25))):
+        assert ades.read(block(rows))[:2] == (("accepted", rows) if refusal is None else ("refused", refusal[0]))
+        assert refusal is None or ades.read(block(rows)) == ades.refused(*refusal)
+    # The version line, the names with a byte each, the ends of the row's fields, its values.
+    assert len(DELAY_SPECIMEN) == 15 + 46 + 8 + 43 and len(DOPPLER_SPECIMEN) == 15 + 50 + 8 + 44
+    assert DELAY_SPECIMEN == block([delay_row()]) and DOPPLER_SPECIMEN == block([doppler_row()])
+    mixed = SPECIMEN + DELAY_SPECIMEN + SPECIMEN
+    assert ades.pack(mixed, 1000) == ("packed", mixed)
+    assert ades.pack(DELAY_SPECIMEN * 2, 1000) == ("packed", DELAY_SPECIMEN + DELAY_ROW)
+    for number, length, answer in (
+            (2, 0, 23), (2, 79, 23), (2, 80, 23), (4, 0, 16), (0, 0, 16), (3, 119, 19), (1, 39, 19)):
+        assert night.write(mixed, number, bytes(length)) == (ades.refused(answer, 0, 0), bytes(length))
+    assert night.write(mixed, 3, bytes(120))[0] == ("written",)
 
 
 def run_rows(count):
@@ -123,6 +164,14 @@ def short_decimals():
             judged_by_patterns(bytes(text))
 
 
+def packed_among_readable(rows):
+    """Of the texts of every cutting those that read back as the same list, and of these the shortest; among equals
+    the one whose first block has most rows, then the second, and so on."""
+    texts = [(cuts, ades.written(rows, cuts)) for cuts in ades.every_cutting(len(rows))]
+    readable = [(-len(text), cuts, text) for cuts, text in texts if ades.read(text)[1] == rows]
+    return max(readable)[2]
+
+
 def packs_well(rows, chance, layouts=3):
     """The packed report reads as the same observations, is as long as the sum of its blocks' bytes,
     is the one found by every cutting where the rows are few, and is no longer than other layouts."""
@@ -133,6 +182,8 @@ def packs_well(rows, chance, layouts=3):
     assert len(packed) == sum(ades.block_bytes(rows[first:first + count]) for first, count in zip(firsts, cuts))
     if len(rows) <= 9:
         assert packed == ades.pack_by_every_cutting(rows)
+    if len(rows) <= 5:
+        assert packed == packed_among_readable(rows)
     for _ in range(layouts):
         layout = random_layout(chance, rows)
         assert ades.read(layout)[1] == rows and len(layout) >= len(packed)
@@ -148,7 +199,8 @@ def specimens_record():
 
 
 def read_back(rows, report, chance):
-    """Written in any order into a list of any bytes, the records read back as what the elements are worth."""
+    """Written in any order into a list of any bytes, the records read back as what the elements are worth. The rows
+    are optical."""
     lent = chance.randbytes(night.RECORD_LENGTH * len(rows))
     for number in chance.sample(range(1, len(rows) + 1), len(rows)):
         answer, lent = night.write(report, number, lent)
@@ -183,6 +235,22 @@ def judged_rightly(record, number):
     assert night.is_bad(record, number) != could, (record, number)
 
 
+def written_between(rows, report, chance):
+    """Of rows of both kinds the optical ones write the records that they write by themselves, at their places; the
+    radar ones are 23 and their places keep their bytes."""
+    places = [chance.randbytes(night.RECORD_LENGTH) for _ in rows]
+    lent = b"".join(places)
+    for number, each in enumerate(rows, start=1):
+        answer, lent = night.write(report, number, lent)
+        if ades.is_radar(each):
+            assert answer == ades.refused(23, 0, 0)
+        else:
+            alone = night.write(block([each]), 1, bytes(night.RECORD_LENGTH))[1]
+            assert answer == ("written",)
+            places[number - 1] = bytes([number - 1]) + alone[1:]
+    assert lent == b"".join(places)
+
+
 def check_night_list(chance):
     """The specimen's record; reports by chance read back; records by chance, right and damaged, judged."""
     specimens_record()
@@ -193,6 +261,8 @@ def check_night_list(chance):
         record = night.record_of(number, rows[0])
         judged_rightly(record, number)
         judged_rightly(record, chance.choice((number + 1, 257)))
+        rows = random_rows(chance, chance.randint(1, 8), random_shapes(chance, 2))
+        written_between(rows, random_layout(chance, rows), chance)
         for _ in range(8):
             at = chance.randrange(night.RECORD_LENGTH)
             judged_rightly(record[:at] + bytes([chance.randrange(256)]) + record[at + 1:], number)
@@ -202,10 +272,11 @@ def check_reference(chance):
     """All of the above, and packing of many small reports by chance."""
     proved_sums()
     sums_of_decimals()
+    sums_of_radar()
     sums_to_be_run()
     day_numbers()
     short_decimals()
-    for _ in range(150):
-        shapes = [random_shape(chance) for _ in range(chance.choice((1, 2, 3)))]
+    for _ in range(250):
+        shapes = random_shapes(chance, chance.choice((1, 2, 3)))
         packs_well(random_rows(chance, chance.randint(1, 8), shapes), chance)
     check_night_list(chance)

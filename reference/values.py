@@ -1,4 +1,5 @@
-"""The forms of the values and what they are worth, from document 01's table of elements and document 02's order 2.
+"""The forms of the values and what they are worth, from document 01's table of elements and document 02's orders 2
+and 3.
 
 Every form is a function from a value's bytes to its fault: 0 for none, 8 too wide, 9 wrong form,
 10 out of its range or vocabulary. A value is never empty and never begins or ends with a blank:
@@ -68,6 +69,11 @@ def free(value, longest):
 def word(value, words):
     """A mode or sys word outside the list is 10."""
     return 0 if value in words.split() else OUT_OF_RANGE
+
+
+def flag(value):
+    """com other than 0 or 1 is 10 (order 3)."""
+    return 0 if value in (b"0", b"1") else OUT_OF_RANGE
 
 
 # ---- designations

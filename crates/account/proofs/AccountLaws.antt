@@ -1,6 +1,7 @@
 -- Steps of working out an account, each over plain lists.
 use Prim.Native.Nat.{ℕ, suc, _+_, _*_, _^_, _≤_, _<_}
 use mathlib.Core.Path.{_≡_, refl, sym, _∙_}
+use mathlib.Core.Bool.{Bool, true, false, Bool·beq}
 use mathlib.Core.List.{List, [], _∷_}
 use native.Mathlib.Nat.{mul-le-mul}
 use native.Mathlib.Numerals.{add-one}
@@ -14,8 +15,9 @@ use mir.Syntax.{w64}
 use mir.Val.{Fits}
 use Rattle.element.specs.Set.{nameBytes}
 use Rattle.element.proofs.Sets.{names-low}
+use Rattle.element.specs.Observation.{isRadarSet}
 use Rattle.cuts.specs.Block.{Row, row, mostRows, rowsOf, union, valueBytes, rowCount, bytesOf}
-use Rattle.account.specs.Account.{valueLimit, closed, accounted, Gathered, leadingLike}
+use Rattle.account.specs.Account.{valueLimit, closed, accounted, Gathered, leadingLike, leadingKind}
 use Rattle.account.specs.declared.Block.{Block}
 use Rattle.account.specs.declared.Gathering.{Gathering}
 
@@ -172,3 +174,44 @@ module _ (sets : List ℕ) (i : ℕ) (l : Like sets i) where
   like-all h = omega (arith, l .like-left, like-end h)
 
 pub ruleset like-needs = (like-none, like-more, like-so-far, like-all)
+
+-- ---- rows of one kind
+
+-- The kind of the first row.
+abbrev pub firstKind : List ℕ → Bool
+firstKind sets = isRadarSet (getD sets 0 0)
+
+-- The rows before i are of the kind of the first.
+pub record OfKind (sets : List ℕ) (i : ℕ) : Type 0 where
+  pub within : i ≤ length sets
+  pub kind-left : leadingKind (firstKind sets) sets ≡ i + leadingKind (firstKind sets) (drop i sets)
+
+pub kind-none : (sets : List ℕ) → OfKind sets 0
+kind-none sets = record { within = omega arith; kind-left = omega arith }
+
+module _ (sets : List ℕ) (i : ℕ) (l : OfKind sets i) where
+  module _ (h : i < length sets) (same : Bool) (s : same ≡ Bool·beq (firstKind sets) (isRadarSet (getD sets i 0))) where
+    kind-step : same ≡ true → leadingKind (firstKind sets) (drop i sets) ≡ suc (leadingKind (firstKind sets) (drop (i + 1) sets))
+    unfolding leadingKind
+    kind-step e = rw (drop-cons sets i 0, ← s, e, add-one)
+
+    kind-other : same ≡ false → leadingKind (firstKind sets) (drop i sets) ≡ 0
+    unfolding leadingKind
+    kind-other e = rw (drop-cons sets i 0, ← s, e)
+
+    -- One row more, and a row of another kind.
+    pub kind-more : same ≡ true → OfKind sets (i + 1)
+    kind-more e = record { within = omega arith; kind-left = omega (arith, l .kind-left, kind-step e) }
+
+    pub kind-so-far : same ≡ false → i ≡ leadingKind (firstKind sets) sets
+    kind-so-far e = omega (arith, l .kind-left, kind-other e)
+
+  kind-end : length sets ≤ i → leadingKind (firstKind sets) (drop i sets) ≡ 0
+  unfolding leadingKind
+  kind-end h = rw drop-of-length-le
+
+  -- The end of the rows.
+  pub kind-all : length sets ≤ i → i ≡ leadingKind (firstKind sets) sets
+  kind-all h = omega (arith, l .kind-left, kind-end h)
+
+pub ruleset kind-needs = (kind-none, kind-more, kind-so-far, kind-all)

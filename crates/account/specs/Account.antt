@@ -1,12 +1,13 @@
 -- The account of a block's length, part by part.
 use Prim.Native.Nat.{ℕ, suc, _*_, _^_}
 use mathlib.Core.Path.{_≡_}
-use mathlib.Core.Bool.{cond, _&&_}
+use mathlib.Core.Bool.{Bool, cond, _&&_, Bool·beq}
 use mathlib.Core.List.{List, [], _∷_}
 use lib.Count.{ones}
 use lib.Dec.{eqb, leb}
 use lib.ListN.{length, getD}
 use Rattle.element.specs.Set.{nameBytes}
+use Rattle.element.specs.Observation.{isRadarSet}
 use Rattle.cuts.specs.Block.{Row, mostRows, rowsOf, union, valueBytes, rowCount, bytesOf}
 use Rattle.account.specs.declared.Block.{Block}
 use Rattle.account.specs.declared.Gathering.{Gathering}
@@ -49,3 +50,12 @@ leadingLike set (other ∷ others) = cond (eqb other set) (suc (leadingLike set 
 -- How many rows from the first on have the set of the first.
 abbrev pub alike : List ℕ → ℕ
 alike sets = leadingLike (getD sets 0 0) sets
+
+-- How many sets from the first on are those of radar observations, or of optical ones.
+unfoldable pub leadingKind : Bool → List ℕ → ℕ
+leadingKind radar [] = 0
+leadingKind radar (set ∷ sets) = cond (Bool·beq radar (isRadarSet set)) (suc (leadingKind radar sets)) 0
+
+-- How many rows from the first on are of the kind of the first.
+abbrev pub ofOneKind : List ℕ → ℕ
+ofOneKind sets = leadingKind (isRadarSet (getD sets 0 0)) sets

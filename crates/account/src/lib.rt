@@ -1,10 +1,13 @@
 // The account of a block's length: 15, plus name lengths, plus one a column, plus values, plus rows times columns.
+use element::observation::is_radar;
 use element::set;
 ghost use mathlib.Core.Path.{_≡_};
+ghost use mathlib.Core.Bool.{Bool·beq};
 ghost use Prim.Native.Nat.{_^_, _≤_, _<_};
 ghost use lib.ListN.{length};
+ghost use Rattle.element.specs.Observation.{isRadarSet};
 ghost use Rattle.cuts.specs.Block.{mostRows, rowsOf};
-ghost use Rattle.account.specs.Account.{valueLimit, closed, accounted, Gathered, alike};
+ghost use Rattle.account.specs.Account.{valueLimit, closed, accounted, Gathered, alike, ofOneKind};
 
 // The most rows of an account.
 const MOST_ROWS: usize = 1024;
@@ -93,4 +96,26 @@ pub fn like_rows(sets: &[u64]) -> usize
         i += 1;
     }
     i
+}
+
+// How many rows from the first on are of the kind of the first, optical or radar.
+pub fn rows_of_kind(sets: &[u64]) -> usize
+    ensures { λ r. ⌜ (r ≡ ofOneKind (now (sets .entry))) × (r ≤ length (now (sets .entry))) ⌝ }
+{
+    let mut i: usize = 0;
+    while i < sets.len() {
+        if is_same_kind(sets[0], sets[i]) {
+            i += 1;
+        } else {
+            return i;
+        }
+    }
+    i
+}
+
+// Whether observations with these sets of elements are both radar or both optical.
+fn is_same_kind(first: u64, second: u64) -> bool
+    ensures { λ r. ⌜ r ≡ Bool·beq (isRadarSet first) (isRadarSet second) ⌝ }
+{
+    is_radar(first) == is_radar(second)
 }

@@ -70,7 +70,7 @@ fn fill(report: &[u8], count: usize, list: &mut [u8]) -> bool {
     while observation < count {
         observation += 1;
         if let Written::Refused(refusal) = night::write(report, observation, list) {
-            explain::refused(report, refusal);
+            records::print_unwritten(report, observation, refusal);
             return false;
         }
     }

@@ -7,7 +7,9 @@ use words::print;
 // Obeys `version`.
 pub(crate) fn obey() {
     print::version();
-    print::bytes(b"\nADES pipe-separated text, edition 2022. Elements: ");
+    print::bytes(
+        b"\nADES pipe-separated text, edition 2022, optical and radar observations. Elements: ",
+    );
     print::number(ELEMENTS as u64);
     print::bytes(b". Limits of a report: ");
     print::number(TEXT_LIMIT as u64);

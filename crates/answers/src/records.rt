@@ -48,6 +48,16 @@ pub fn print_records(list: &[u8], count: usize) {
     }
 }
 
+// Prints the refusal of an observation's record, and which observation it is.
+pub fn print_unwritten(report: &[u8], observation: usize, refusal: Refusal) {
+    explain::refused(report, refusal);
+    print::between(
+        b"The record refused is that of observation ",
+        observation as u64,
+        b". Nothing was written.\n",
+    );
+}
+
 // Prints the refusal of a list: the rule, and the bytes of the record that breaks it.
 pub fn print_refused(list: &[u8], refusal: Refusal) {
     let kind = refusal.kind;

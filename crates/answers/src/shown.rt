@@ -8,8 +8,17 @@ pub fn print_shown(report: &[u8], observation: usize, element: usize, start: usi
     print::bytes(report::shown(report, observation, element));
     print::line_end();
     print_asked(observation, element);
-    print::between(b": ", length as u64, b" bytes");
+    print_length(length);
     print::between(b" after the first ", start as u64, b" of the report.\n");
+}
+
+// Prints how many bytes a value has.
+fn print_length(length: usize) {
+    if length == 1 {
+        print::bytes(b": 1 byte");
+    } else {
+        print::between(b": ", length as u64, b" bytes");
+    }
 }
 
 // Prints that an observation has no such element.

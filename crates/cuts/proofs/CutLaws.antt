@@ -1,20 +1,22 @@
 -- Cut lists of rows and of what the rows are turned into, and what a cut list is where all rows may stand together.
 use mathlib.Core.Path.{_≡_, refl, sym, ap, _∙_}
+use mathlib.Core.Bool.{cond}
 use mathlib.Core.List.{List, [], _∷_, map}
 use Prim.Native.Nat.{ℕ, _≤_, _<_, zero, suc}
 use native.Mathlib.Omega.{arith}
+use lib.Dec.{eqb}
 use lib.ListN.{length, take, drop, length-drop}
-use Rattle.cuts.specs.Cuts.{cost, Cuts, Wanted}
+use Rattle.cuts.specs.Cuts.{cost, Cuts, stretch, Wanted}
 use Rattle.cuts.specs.Block.{total}
 
 module _ {A B : Type 0} (f : A → B) where
   -- The first rows, and the rest, of what rows are turned into.
-  take-map : (k : ℕ) (xs : List A) → take k (map f xs) ≡ map f (take k xs)
+  pub take-map : (k : ℕ) (xs : List A) → take k (map f xs) ≡ map f (take k xs)
   take-map zero xs = refl
   take-map (suc k) [] = refl
   take-map (suc k) (x ∷ xs) = ap (λ (t : List B). f x ∷ t) (take-map k xs)
 
-  drop-map : (k : ℕ) (xs : List A) → drop k (map f xs) ≡ map f (drop k xs)
+  pub drop-map : (k : ℕ) (xs : List A) → drop k (map f xs) ≡ map f (drop k xs)
   drop-map zero xs = refl
   drop-map (suc k) [] = refl
   drop-map (suc k) (x ∷ xs) = drop-map k xs
@@ -52,6 +54,12 @@ wanted-map f C D same m n limit rows ks w =
       least = λ js v. omega (arith, w .least js (cuts-to f m n limit js rows v), c js, c ks);
       last = λ js v e. w .last js (cuts-to f m n limit js rows v) (c js ∙ e ∙ sym (c ks));
     }
+
+-- A stretch of what rows are turned into is as long as that of the rows.
+pub stretch-map : {A B : Type 0} (f : A → B) (mark : B → ℕ) (m : ℕ) (xs : List A) → stretch mark m (map f xs) ≡ stretch (λ x. mark (f x)) m xs
+unfolding stretch
+stretch-map f mark m [] = refl
+stretch-map f mark m (x ∷ xs) = ap (λ (n : ℕ). cond (eqb (mark (f x)) m) (suc n) 0) (stretch-map f mark m xs)
 
 -- ---- where all rows may stand together
 

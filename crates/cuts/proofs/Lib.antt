@@ -2,6 +2,8 @@
 pub mod WantedUnique
 pub mod CheapestLaws
 pub mod CutLaws
+-- Rows with marks: a block holds rows of one mark.
+pub mod StretchCuts
 -- Laws on the bytes of blocks.
 pub mod SumLaws
 pub mod UnionLaws
@@ -21,3 +23,5 @@ pub mod WalkLaws
 pub mod PressLaws
 pub mod PlanLaws
 pub mod ReadyLaws
+pub mod RowLaws
+pub mod StretchLaws

@@ -12,8 +12,9 @@ use mir.Syntax.{w64}
 use mir.Val.{Fits}
 use lib.Seq.{take-all}
 use Rattle.cuts.specs.Runs.{fewRuns, press, runsIn, Ready}
-use Rattle.cuts.specs.Plan.{ready, Planned, Answered, ShortestPromised}
-use Rattle.cuts.specs.Block.{mostRows, mostBytes, rowsOf, total, valueBytes, allMore}
+use Rattle.cuts.specs.Cuts.{sameMark}
+use Rattle.cuts.specs.Plan.{markedRows, markedBytes, ready, Planned, Answered, ShortestPromised}
+use Rattle.cuts.specs.Block.{mostRows, mostBytes, rowsOf, total, valueBytes}
 use Rattle.cuts.specs.declared.Plan.{Plan}
 use Rattle.cuts.proofs.SumLaws.{total-take}
 use Rattle.cuts.proofs.PressLaws.{rows-few, press-short, press-count}
@@ -52,30 +53,36 @@ pub ruleset size-needs = (summed-none, summed-more, summed-fits, summed-all)
 -- ---- the tests
 
 -- Each test decides, where those before it passed.
-module _ (sets sizes cuts : List ℕ) where
-  pub unlike-lengths : (length sizes ≡ length sets → ⊥) → false ≡ ready sets sizes cuts
+module _ (marks sets sizes cuts : List ℕ) where
+  pub unlike-marks : (length marks ≡ length sets → ⊥) → false ≡ ready marks sets sizes cuts
   unfolding ready
-  unlike-lengths n = rw (ne-eqb (length sizes) (length sets) n)
+  unlike-marks n = rw (ne-eqb (length marks) (length sets) n)
 
-  module _ (same : length sizes ≡ length sets) where
-    pub too-many : mostRows < length sets → false ≡ ready sets sizes cuts
+  module _ (marked : length marks ≡ length sets) where
+    pub unlike-lengths : (length sizes ≡ length sets → ⊥) → false ≡ ready marks sets sizes cuts
     unfolding ready
-    too-many h = rw (eq-eqb (length sizes) (length sets) same, lt-leb (length sets) mostRows h)
+    unlike-lengths n = rw (eq-eqb (length marks) (length sets) marked, ne-eqb (length sizes) (length sets) n)
 
-    module _ (few : length sets ≤ mostRows) where
-      pub sizes-few : length sizes ≤ mostRows
-      sizes-few = omega arith
-
-      pub no-room : length cuts < length sets → false ≡ ready sets sizes cuts
+    module _ (same : length sizes ≡ length sets) where
+      -- A mark and a size for each set: what is left of the tests.
+      both : ready marks sets sizes cuts ≡ (leb (length sets) mostRows && (leb (length sets) (length cuts) && leb (total sizes) mostBytes))
       unfolding ready
-      no-room h = rw (eq-eqb (length sizes) (length sets) same, le-leb (length sets) mostRows few, lt-leb (length sets) (length cuts) h)
+      both = rw (eq-eqb (length marks) (length sets) marked, eq-eqb (length sizes) (length sets) same)
 
-      pub size-decides : (sum : ℕ) → length sets ≤ length cuts → sum ≡ total sizes → leb sum mostBytes ≡ ready sets sizes cuts
-      unfolding ready
-      size-decides sum h e =
-          rw (eq-eqb (length sizes) (length sets) same, le-leb (length sets) mostRows few, le-leb (length sets) (length cuts) h, e)
+      pub too-many : mostRows < length sets → false ≡ ready marks sets sizes cuts
+      too-many h = rw (both, lt-leb (length sets) mostRows h)
 
-pub ruleset test-needs = (unlike-lengths, too-many, sizes-few, no-room, size-decides)
+      module _ (few : length sets ≤ mostRows) where
+        pub sizes-few : length sizes ≤ mostRows
+        sizes-few = omega arith
+
+        pub no-room : length cuts < length sets → false ≡ ready marks sets sizes cuts
+        no-room h = rw (both, le-leb (length sets) mostRows few, lt-leb (length sets) (length cuts) h)
+
+        pub size-decides : (sum : ℕ) → length sets ≤ length cuts → sum ≡ total sizes → leb sum mostBytes ≡ ready marks sets sizes cuts
+        size-decides sum h e = rw (both, le-leb (length sets) mostRows few, le-leb (length sets) (length cuts) h, e)
+
+pub ruleset test-needs = (unlike-marks, unlike-lengths, too-many, sizes-few, no-room, size-decides)
 
 -- ---- the promise
 
@@ -95,12 +102,16 @@ sizes-values [] sizes = omega arith
 sizes-values (m ∷ sets) [] = omega arith
 sizes-values (m ∷ sets) (s ∷ sizes) = omega (arith, sizes-values sets sizes)
 
-module _ (sets sizes cuts : List ℕ) (b : Bool) (is : b ≡ ready sets sizes cuts) where
+module _ (marks sets sizes cuts : List ℕ) (b : Bool) (is : b ≡ ready marks sets sizes cuts) where
   -- The input is ready where the test passes, and the promise is what the test says.
+  pub is-marked : b ≡ true → length marks ≡ length sets
+  unfolding ready
+  is-marked e = eqb-true (length marks) (length sets) (and-left (eqb (length marks) (length sets)) _ (sym is ∙ e))
+
   pub is-ready : b ≡ true → Ready sets sizes cuts
   unfolding ready
   is-ready e =
-      let all = sym is ∙ e in
+      let all = and-right (eqb (length marks) (length sets)) _ (sym is ∙ e) in
       let limits = and-right (eqb (length sizes) (length sets)) _ all in
       let rest = and-right (leb (length sets) mostRows) _ limits in
       record {
@@ -110,15 +121,16 @@ module _ (sets sizes cuts : List ℕ) (b : Bool) (is : b ≡ ready sets sizes cu
         room = leb-true (length sets) (length cuts) (and-left (leb (length sets) (length cuts)) _ rest);
       }
 
-  pub is-planned : (plan : Plan) (after : List ℕ) → b ≡ true → Planned allMore (rowsOf sets sizes) plan cuts after → ShortestPromised sets sizes plan cuts after
-  is-planned plan after e p = subst (λ (t : Bool). Answered t (rowsOf sets sizes) plan cuts after) (sym e ∙ is) p
+  pub is-planned : (plan : Plan) (after : List ℕ) → b ≡ true → Planned markedBytes (sameMark (λ marked. marked .mark)) (markedRows marks sets sizes) plan cuts after
+      → ShortestPromised marks sets sizes plan cuts after
+  is-planned plan after e p = subst (λ (t : Bool). Answered t (markedRows marks sets sizes) plan cuts after) (sym e ∙ is) p
 
-  pub is-unplanned : b ≡ false → ShortestPromised sets sizes (record { blocks = 0; bytes = 0 }) cuts cuts
+  pub is-unplanned : b ≡ false → ShortestPromised marks sets sizes (record { blocks = 0; bytes = 0 }) cuts cuts
   is-unplanned e =
-      subst (λ (t : Bool). Answered t (rowsOf sets sizes) (record { blocks = 0; bytes = 0 }) cuts cuts) (sym e ∙ is)
+      subst (λ (t : Bool). Answered t (markedRows marks sets sizes) (record { blocks = 0; bytes = 0 }) cuts cuts) (sym e ∙ is)
       (record { blocks = refl; bytes = refl; kept = refl })
 
-pub ruleset promise-needs = (is-ready, is-planned, is-unplanned)
+pub ruleset promise-needs = (is-marked, is-ready, is-planned, is-unplanned)
 
 -- ---- the lists
 

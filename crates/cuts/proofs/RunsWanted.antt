@@ -110,7 +110,7 @@ module _ (sets sizes runSets runSizes runCounts before : List ℕ) (j : ℕ) (re
 
   -- What is planned for the runs is right for the rows.
   pub planned : (plan : Plan) (after : List ℕ) → PlannedRuns allMore (runsOf (end runSets j) (end runSizes j) (end runCounts j)) (end runCounts j) plan before after
-      → Planned allMore (rowsOf sets sizes) plan before after
+      → Planned blockBytes allMore (rowsOf sets sizes) plan before after
   planned plan after d =
       let q : end runCounts j ≡ map (λ (r : Row). r .count) (runsOf (end runSets j) (end runSizes j) (end runCounts j)) =
       runs-counts (end runSets j) (end runSizes j) (end runCounts j) (ready-runs .same) (ready-runs .also) in

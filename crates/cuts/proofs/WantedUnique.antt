@@ -7,9 +7,8 @@ use Prim.Native.Nat.{ℕ}
 use native.Mathlib.Omega.{arith}
 use lib.ListN.{length, take, drop, take-append-drop}
 use lib.Seq.{length-take-le}
-use Rattle.cuts.specs.Cuts.{Yields, cost, Wanted}
-use Rattle.cuts.specs.Block.{Row, blockBytes, rowsOf, allMore}
-use Rattle.cuts.specs.Plan.{Planned, Unplanned, Answered, ShortestPromised, ready}
+use Rattle.cuts.specs.Cuts.{Yields, cost, sameMark, Wanted}
+use Rattle.cuts.specs.Plan.{markedRows, markedBytes, Planned, Unplanned, Answered, ShortestPromised, ready}
 use Rattle.cuts.specs.declared.Plan.{Plan}
 
 -- Two cut lists that yield to each other are the same.
@@ -30,13 +29,13 @@ wanted-unique C more rows ks js p q =
     yields-antisym ks js (q .last ks (p .cuts) e) (p .last js (q .cuts) (sym e))
 
 -- One plan is right, and one list of lent numbers with it.
-pub planned-unique : (more : Row → List Row → ℕ) (rows : List Row) (p q : Plan) (before after other : List ℕ)
-    → Planned more rows p before after → Planned more rows q before other → (p ≡ q) × (after ≡ other)
-planned-unique more rows p q before after other a b =
-    let cut : take (p .blocks) after ≡ take (q .blocks) other = wanted-unique blockBytes more rows _ _ (a .wanted) (b .wanted) in
+pub planned-unique : {A : Type 0} (C : List A → ℕ) (more : A → List A → ℕ) (rows : List A) (p q : Plan) (before after other : List ℕ)
+    → Planned C more rows p before after → Planned C more rows q before other → (p ≡ q) × (after ≡ other)
+planned-unique C more rows p q before after other a b =
+    let cut : take (p .blocks) after ≡ take (q .blocks) other = wanted-unique C more rows _ _ (a .wanted) (b .wanted) in
     let blocks : p .blocks ≡ q .blocks =
     omega (arith, ap length cut, length-take-le (p .blocks) after (a .within), length-take-le (q .blocks) other (b .within)) in
-    let bytes : p .bytes ≡ q .bytes = a .bytes ∙ ap (λ (ks : List ℕ). cost blockBytes ks rows) cut ∙ sym (b .bytes) in
+    let bytes : p .bytes ≡ q .bytes = a .bytes ∙ ap (λ (ks : List ℕ). cost C ks rows) cut ∙ sym (b .bytes) in
     let rest : drop (p .blocks) after ≡ drop (q .blocks) other = a .kept ∙ ap (λ (n : ℕ). drop n before) blocks ∙ sym (b .kept) in (
       λ i. record { blocks = blocks i; bytes = bytes i },
       sym (take-append-drop (p .blocks) after) ∙ ap₂ _++_ cut rest ∙ take-append-drop (q .blocks) other,
@@ -49,10 +48,10 @@ unplanned-unique p q before after other a b = (
 )
 
 -- The promise of `shortest` has one answer.
-pub promised-unique : (sets sizes : List ℕ) (p q : Plan) (before after other : List ℕ)
-    → ShortestPromised sets sizes p before after → ShortestPromised sets sizes q before other → (p ≡ q) × (after ≡ other)
-promised-unique sets sizes p q before after other = go (ready sets sizes before)
+pub promised-unique : (marks sets sizes : List ℕ) (p q : Plan) (before after other : List ℕ)
+    → ShortestPromised marks sets sizes p before after → ShortestPromised marks sets sizes q before other → (p ≡ q) × (after ≡ other)
+promised-unique marks sets sizes p q before after other = go (ready marks sets sizes before)
   where
-    go : (b : Bool) → Answered b (rowsOf sets sizes) p before after → Answered b (rowsOf sets sizes) q before other → (p ≡ q) × (after ≡ other)
-    go true = planned-unique allMore (rowsOf sets sizes) p q before after other
+    go : (b : Bool) → Answered b (markedRows marks sets sizes) p before after → Answered b (markedRows marks sets sizes) q before other → (p ≡ q) × (after ≡ other)
+    go true = planned-unique markedBytes (sameMark (λ marked. marked .mark)) (markedRows marks sets sizes) p q before after other
     go false = unplanned-unique p q before after other

@@ -6,3 +6,4 @@ pub mod Cheapest
 pub mod Look
 pub mod Walk
 pub mod Runs
+pub mod Stretches

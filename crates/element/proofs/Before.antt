@@ -11,7 +11,7 @@ use Rattle.value.proofs.Before.{decimalBefore, correlationBefore, rightAscensio
 use Rattle.element.specs.Form.{valueIn, valueOf, checkOf, faultOf}
 use Rattle.element.specs.Table.{formOf}
 use Rattle.element.specs.declared.form.Form.{Form}
-use Rattle.element.specs.declared.form.Form.the-variants.{Unknown, PermID, ProvID, ArtSat, Alphanumeric, Free, Mode, System, Centre, Decimal, Correlation, Time, RightAscension, Declination}
+use Rattle.element.specs.declared.form.Form.the-variants.{Unknown, PermID, ProvID, ArtSat, Alphanumeric, Free, Mode, System, Centre, Decimal, Correlation, Time, RightAscension, Declination, Flag}
 use Rattle.element.specs.declared.form.Check.{Check}
 use Rattle.element.specs.declared.form.Check.the-variants.{Fine, Bad}
 
@@ -31,6 +31,7 @@ valueInBefore Correlation text = correlationBefore text
 valueInBefore Time text = valueIn Time text
 valueInBefore RightAscension text = rightAscensionBefore text
 valueInBefore Declination text = declinationBefore text
+valueInBefore Flag text = valueIn Flag text
 
 unfoldable pub valueBefore : ℕ → List ℕ → Value
 valueBefore index text = valueInBefore (formOf index) text
@@ -55,6 +56,7 @@ form-kept Correlation text e = correlation-kept text e
 form-kept Time text e = refl
 form-kept RightAscension text e = ascension-kept text e
 form-kept Declination text e = declination-kept text e
+form-kept Flag text e = refl
 
 -- So it has as a value of its element.
 pub value-kept : (index : ℕ) (text : List ℕ) → isFine (valueBefore index text) ≡ true → valueOf index text ≡ valueBefore index text

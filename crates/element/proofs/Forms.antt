@@ -79,7 +79,7 @@ form-past index a = sym (List·getD-eq-default forms Unknown {n = index} (avoids
 
 -- The numbers of the elements with a value.
 abbrev pub valued : List ℕ
-valued = 10 ∷ 11 ∷ 12 ∷ 13 ∷ 15 ∷ 16 ∷ 17 ∷ 18 ∷ 19 ∷ 20 ∷ 21 ∷ 23 ∷ 24 ∷ 27 ∷ []
+valued = 10 ∷ 11 ∷ 12 ∷ 13 ∷ 15 ∷ 16 ∷ 17 ∷ 18 ∷ 19 ∷ 20 ∷ 21 ∷ 23 ∷ 24 ∷ 27 ∷ 32 ∷ 33 ∷ 34 ∷ 35 ∷ 36 ∷ []
 
 -- The number is in the list.
 abbrev pub isAmong : List ℕ → ℕ → Bool
@@ -103,7 +103,7 @@ alike-is false false t = refl
 valued-test : ℕ → Bool
 valued-test index = alike (hasValue index) (isAmong valued (index + 1))
 
--- Elements with a value are 10 to 13, 15 to 21, 23, 24, 27.
+-- Elements with a value are 10 to 13, 15 to 21, 23, 24, 27 and 32 to 36.
 pub valued-are : (index : ℕ) → index < elements → hasValue index ≡ isAmong valued (index + 1)
 unfolding valued-test alike hasValue
 valued-are index h = alike-is _ _ (below valued-test elements tt index h)

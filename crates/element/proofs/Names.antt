@@ -136,7 +136,7 @@ module _ (index : ℕ) (h : index < elements) where
 
 -- The bytes of the longest name.
 abbrev pub longest : ℕ
-longest = 8
+longest = 10
 
 -- No name has more.
 pub name-short : (index : ℕ) → length (nameOf index) ≤ longest

@@ -1,10 +1,10 @@
--- Elements 1 to 3, 7, 9, 15, 17 and 18 never give 8.
+-- Elements 1 to 3, 7, 9, 15, 17, 18 and 37 never give 8.
 use Prim.Native.Nat.{ℕ, _-_}
 use mathlib.Core.Path.{_≡_}
 use mathlib.Core.List.{List, [], _∷_}
 use Rattle.refusal.specs.declared.Kind.the-variants.{TooWide}
 use Rattle.value.specs.declared.Value.the-variants.{Bad}
-use Rattle.value.proofs.TooWide.{permID-narrow, provID-narrow, artSat-narrow, mode-narrow, system-narrow, obsTime-narrow, rightAscension-narrow, declination-narrow}
+use Rattle.value.proofs.TooWide.{permID-narrow, provID-narrow, artSat-narrow, mode-narrow, system-narrow, obsTime-narrow, rightAscension-narrow, declination-narrow, flag-narrow}
 use Rattle.element.specs.Form.{valueOf}
 
 -- No text gives 8 as a value of the element of the number.
@@ -17,8 +17,8 @@ pub data NeverTooWide : List ℕ → Type 0 where
   none : NeverTooWide []
   _and_ : {number : ℕ} {numbers : List ℕ} → Never number → NeverTooWide numbers → NeverTooWide (number ∷ numbers)
 
--- permID, provID, artSat, mode, sys, obsTime, ra, dec.
-pub never-too-wide : NeverTooWide (1 ∷ 2 ∷ 3 ∷ 7 ∷ 9 ∷ 15 ∷ 17 ∷ 18 ∷ [])
+-- permID, provID, artSat, mode, sys, obsTime, ra, dec, com.
+pub never-too-wide : NeverTooWide (1 ∷ 2 ∷ 3 ∷ 7 ∷ 9 ∷ 15 ∷ 17 ∷ 18 ∷ 37 ∷ [])
 unfolding valueOf
 never-too-wide =
     permID-narrow
@@ -29,4 +29,5 @@ never-too-wide =
     and obsTime-narrow
     and rightAscension-narrow
     and declination-narrow
+    and flag-narrow
     and none

@@ -3,20 +3,20 @@ use Prim.Native.Nat.{ℕ, zero, suc, _+_, _-_, _*_, _/_, _%_, _^_, _≤_, _<_}
 use mathlib.Core.Path.{_≡_, refl, sym, ap, fun-ext, _∙_}
 use mathlib.Core.Bool.{Bool, true, false}
 use mathlib.Core.List.{List, [], _∷_}
-use native.Mathlib.Nat.{pow-suc, pow-succ', zero-div, div-one, div-div-eq-div-mul, div-eq-of-lt, lt-of-lt-of-le, pow-le-pow-right, add-zero, mul-suc, mul-add}
+use native.Mathlib.Nat.{pow-suc, pow-succ', zero-div, div-one, div-div-eq-div-mul, div-eq-of-lt, div-le-self, lt-of-lt-of-le, pow-le-pow-right, add-zero, mul-suc, mul-add}
 use native.Mathlib.Numerals.{add-one}
 use native.Mathlib.Omega.{arith}
 use lib.Bits.{bitOr, or-block, or-zero-r}
-use lib.Count.{ones, ones-step, ones-le}
+use lib.Count.{ones, ones-step, ones-le, trailingZeros, under}
 use lib.Dec.{eqb, lit<}
 use lib.ListN.{length, getD, drop, set, replicate, drop-of-length-le, List·getD-map}
-use lib.Seq.{set-getD, drop-cons}
-use mir.Syntax.{w32}
+use lib.Seq.{set-getD, drop-cons, drop-drop, drop-nil}
+use mir.Syntax.{w32, w64}
 use mir.Val.{Fits}
 use Rattle.element.specs.Set.{has, joined, lengthIf, bytesIn, nameLengths, nameBytes}
 use Rattle.element.specs.Table.{elements, names, nameOf}
 use Rattle.element.proofs.Names.{longest, name-short}
-use Rattle.element.specs.Observation.{Observation, isPresent, isWgs84, isEarth, bit, setOf, faultIn, setFault, observationFault}
+use Rattle.element.specs.Observation.{Observation, isPresent, isRadar, isRadarSet, radar, holdsAny, isWgs84, isEarth, bit, setOf, faultIn, setFault, observationFault}
 
 -- ---- sets
 
@@ -121,20 +121,74 @@ pub names-low : (set : ℕ) → nameBytes set ≤ 1024
 names-low set =
     omega (arith, bytes-low longest nameLengths set (λ e. omega (arith, name-length e, name-short e)), name-lengths-length)
 
--- One name more: p is its length where its element is in the set.
-module _ {set left sum e : ℕ} (a : Adds nameLengths set left sum e) (h : e < elements) (l : ℕ) (n : l ≡ length (nameOf e)) (p : ℕ)
-    (q : p ≡ lengthIf (left % 2) l) where
-  inside : e < length nameLengths
-  inside = rw name-lengths-length h
+-- No set without elements has bytes.
+bytes-none : (lengths : List ℕ) → bytesIn lengths 0 ≡ 0
+unfolding bytesIn
+bytes-none [] = refl
+bytes-none (l ∷ ls) = omega (arith, bytes-none ls)
 
-  added : p ≡ lengthIf (left % 2) (getD nameLengths e 0)
-  added = q ∙ ap (lengthIf (left % 2)) (n ∙ sym (name-length e))
+-- What stands below a set's lowest element has none either.
+bytes-skip : (d : ℕ) (lengths : List ℕ) (left : ℕ)
+    → bytesIn lengths left ≡ bytesIn (drop (trailingZeros d left) lengths) (left / 2 ^ trailingZeros d left)
+unfolding bytesIn trailingZeros
+bytes-skip zero lengths left = rw (div-one left)
+bytes-skip (suc d) [] left = rw (drop-nil {A = ℕ} (trailingZeros (suc d) left))
+bytes-skip (suc d) (l ∷ ls) left = go (left % 2) refl (trailingZeros d (left / 2)) (bytes-skip d ls (left / 2))
+  where
+    go : (low : ℕ) → left % 2 ≡ low → (t : ℕ) → bytesIn ls (left / 2) ≡ bytesIn (drop t ls) (left / 2 / 2 ^ t)
+        → lengthIf (left % 2) l + bytesIn ls (left / 2) ≡ bytesIn (drop (under low t) (l ∷ ls)) (left / 2 ^ under low t)
+    go zero e t h = rw (e, pow-succ' 2 t, ← div-div-eq-div-mul left 2 (2 ^ t)) (omega (arith, h))
+    go (suc low) e t h = rw (div-one left)
 
-  pub name-more : Adds nameLengths set (left / 2) (sum + p) (e + 1)
-  name-more = adds-more a p inside added
+-- The lowest element of a set is in it.
+lowest-set : (d left : ℕ) → (left ≡ 0 → ⊥) → left < 2 ^ d → left / 2 ^ trailingZeros d left % 2 ≡ 1
+unfolding trailingZeros
+lowest-set zero left n h = absurd (omega (arith, n))
+lowest-set (suc d) left n h =
+    go (left % 2) refl (trailingZeros d (left / 2)) (λ e. lowest-set d (left / 2) (λ z. n (omega (arith, e))) (omega (arith, pow-suc 2 d)))
+  where
+    go : (low : ℕ) → left % 2 ≡ low → (t : ℕ) → (left % 2 ≡ 0 → left / 2 / 2 ^ t % 2 ≡ 1) → left / 2 ^ under low t % 2 ≡ 1
+    go zero e t next = rw (pow-succ' 2 t, ← div-div-eq-div-mul left 2 (2 ^ t)) (next e)
+    go (suc low) e t next = rw (div-one left) (omega (arith, e))
 
-  pub name-fits : Fits w32 (sum + p)
-  name-fits = adds-fit a p inside added (omega (arith, names-low set))
+-- The names of the elements passed, and those of the elements left.
+module _ {set left sum e : ℕ} (a : Adds nameLengths set left sum e) where
+  abbrev skip : ℕ
+  skip = trailingZeros 64 left
+
+  skipped : bytesIn (drop e nameLengths) left ≡ bytesIn (drop (e + skip) nameLengths) (left / 2 ^ skip)
+  skipped = bytes-skip 64 (drop e nameLengths) left ∙ ap (λ (l : List ℕ). bytesIn l (left / 2 ^ skip)) (drop-drop skip e nameLengths)
+
+  -- No element is left.
+  pub names-done : left ≡ 0 → sum ≡ nameBytes set
+  names-done z = omega (arith, a .sum-left, ap (bytesIn (drop e nameLengths)) z, bytes-none (drop e nameLengths))
+
+  -- What is left are no elements.
+  pub names-past : elements ≤ e + skip → sum ≡ nameBytes set
+  names-past h =
+      let none : bytesIn (drop (e + skip) nameLengths) (left / 2 ^ skip) ≡ 0 =
+      bytes-end nameLengths (e + skip) (left / 2 ^ skip) (omega (arith, name-lengths-length)) in
+      omega (arith, a .sum-left, skipped, none)
+
+  -- One element more: p is the length of its name.
+  module _ (n : left ≡ 0 → ⊥) (b : left < 2 ^ 64) (h : e + skip < elements) (p : ℕ) (q : p ≡ length (nameOf (e + skip))) where
+    here : Adds nameLengths set (left / 2 ^ skip) sum (e + skip)
+    here = record { within = omega (arith, name-lengths-length); sum-left = omega (arith, a .sum-left, skipped) }
+
+    inside : e + skip < length nameLengths
+    inside = rw name-lengths-length h
+
+    added : p ≡ lengthIf (left / 2 ^ skip % 2) (getD nameLengths (e + skip) 0)
+    added = rw (lowest-set 64 left n b) (q ∙ sym (name-length (e + skip)))
+
+    pub name-more : Adds nameLengths set (left / 2 ^ skip / 2) (sum + p) (e + skip + 1)
+    name-more = adds-more here p inside added
+
+    pub name-fits : Fits w64 (sum + p)
+    name-fits = record { fits = omega (arith, name-more .sum-left, names-low set) }
+
+    pub left-less : left / 2 ^ skip / 2 < 2 ^ 64
+    left-less = omega (arith, div-le-self left (2 ^ skip))
 
 -- ---- the set of an observation
 
@@ -201,3 +255,8 @@ has-present o e = ap (λ (n : ℕ). eqb n 1) (has-set o e) ∙ bit-test (isPrese
 pub set-fault : (o : Observation) → setFault (setOf o) (isWgs84 o) (isEarth o) ≡ observationFault o
 unfolding setFault observationFault
 set-fault o = ap (λ (holds : ℕ → Bool). faultIn holds (isWgs84 o) (isEarth o)) (fun-ext (λ number. has-present o (number - 1)))
+
+-- Whether an observation is radar is seen from its set.
+pub set-radar : (o : Observation) → isRadarSet (setOf o) ≡ isRadar o
+unfolding isRadarSet isRadar
+set-radar o = ap (holdsAny radar) (fun-ext (λ number. has-present o (number - 1)))

@@ -7,13 +7,15 @@ use Rattle.text.specs.Part.{same, starts}
 use Rattle.value.specs.Angle.{isDegrees, isRightAscension, units, rightAscension, declination}
 use Rattle.value.specs.Calendar.{isLeap, yearDays, monthLength, monthDays, isDate, dayNumber}
 use Rattle.value.specs.Centre.{centre, isInteger, lessMinus}
+use Rattle.value.specs.Characters.{alphanumeric}
 use Rattle.value.specs.Decimal.{isPointed, isDecimal, places, isTooWide, decimalIn, decimal, correlation}
 use Rattle.value.specs.Designation.{isCapitals, isMinorPlanet, isCometEnd, isComet, provID}
 use Rattle.value.specs.Numeral.{isDigits, isCount, part}
 use Rattle.value.specs.Sign.{bare, withSign}
 use Rattle.value.specs.Time.{isFraction, isTimeEnd, isTime, isMoment, dayOf, fraction, microseconds, obsTime}
+use Rattle.value.specs.Word.{flag}
 use Rattle.element.specs.Form.{valueOf}
-use Rattle.element.specs.Sums.{Sum, IsRight, AreRight, valueSums, pointValueSums}
+use Rattle.element.specs.Sums.{Sum, IsRight, AreRight, valueSums, pointValueSums, radarValueSums}
 use Rattle.element.specs.Table.{indexIn, indexOf}
 
 -- P4 to P10.
@@ -29,6 +31,12 @@ unfolding IsRight AreRight pointValueSums valueOf indexOf indexIn same starts le
     declination isPointed isDecimal places isTooWide decimalIn decimal correlation centre isInteger lessMinus isDigits isFraction isTimeEnd isTime
     obsTime bare withSign
 point-value-sums-right = (refl, (refl, (refl, (refl, (refl, (refl, (refl, (refl, (refl, (refl, (refl, (refl, (refl, (refl, (refl, (refl, (refl, (refl, (refl, (refl, (refl, tt)))))))))))))))))))))
+
+-- Order 3.
+pub radar-value-sums-right : AreRight radarValueSums
+unfolding IsRight AreRight radarValueSums valueOf indexOf indexIn same leading isOnly after number isPointed isDecimal places isTooWide decimalIn
+    decimal alphanumeric flag isDigits bare withSign
+radar-value-sums-right = (refl, (refl, (refl, (refl, (refl, (refl, (refl, (refl, (refl, (refl, (refl, (refl, tt))))))))))))
 
 -- Two tables that are right are right one after the other.
 pub right-append : (xs ys : List Sum) → AreRight xs → AreRight ys → AreRight (xs ++ ys)

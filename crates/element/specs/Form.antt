@@ -9,12 +9,12 @@ use Rattle.value.specs.Characters.{alphanumeric, free}
 use Rattle.value.specs.Decimal.{decimal, correlation}
 use Rattle.value.specs.Designation.{permID, provID, artSat}
 use Rattle.value.specs.Time.{obsTime}
-use Rattle.value.specs.Word.{mode, system}
+use Rattle.value.specs.Word.{mode, system, flag}
 use Rattle.value.specs.declared.Value.{Value}
 use Rattle.value.specs.declared.Value.the-variants as Values
 use Rattle.element.specs.Table.{formOf}
 use Rattle.element.specs.declared.form.Form.{Form}
-use Rattle.element.specs.declared.form.Form.the-variants.{Unknown, PermID, ProvID, ArtSat, Alphanumeric, Free, Mode, System, Centre, Decimal, Correlation, Time, RightAscension, Declination}
+use Rattle.element.specs.declared.form.Form.the-variants.{Unknown, PermID, ProvID, ArtSat, Alphanumeric, Free, Mode, System, Centre, Decimal, Correlation, Time, RightAscension, Declination, Flag}
 use Rattle.element.specs.declared.form.Check.{Check}
 use Rattle.element.specs.declared.form.Check.the-variants.{Fine, Bad}
 
@@ -34,6 +34,7 @@ valueIn Correlation text = correlation text
 valueIn Time text = obsTime text
 valueIn RightAscension text = rightAscension text
 valueIn Declination text = declination text
+valueIn Flag text = flag text
 
 -- The value of a text as a value of the element of an index.
 unfoldable pub valueOf : ℕ → List ℕ → Value
@@ -69,7 +70,8 @@ isValued Correlation = true
 isValued Time = true
 isValued RightAscension = true
 isValued Declination = true
+isValued Flag = false
 
--- Elements with a value are 10 to 13, 15 to 21, 23, 24, 27: those of a numeric form.
+-- Elements with a value are 10 to 13, 15 to 21, 23, 24, 27 and 32 to 36: those of a numeric form.
 unfoldable pub hasValue : ℕ → Bool
 hasValue index = isValued (formOf index)

@@ -1,4 +1,4 @@
--- The documents' sums, as tables of equations. These tables have those about values: document 01's P4 to P10, and document 02's order 2.
+-- The documents' sums, as tables of equations. These tables have those about values: document 01's P4 to P10, and document 02's orders 2 and 3.
 use Prim.Native.String.{String}
 use mathlib.Core.Path.{_≡_}
 use mathlib.Core.List.{List, [], _∷_}
@@ -65,4 +65,21 @@ pointValueSums =
     (value "dec" "-.5" gives right (angle (negℤ (pos 500000000)))) ∷
     (value "ctr" "399." gives fault 9) ∷
     (value "obsTime" "2024-03-01T04:05:06.Z" gives fault 9) ∷
+    []
+
+-- Order 3: station codes, delay, Doppler and its error, frequency, the flag.
+unfoldable pub radarValueSums : List Sum
+radarValueSums =
+    (value "trx" "253" gives right noValue) ∷
+    (value "rcv" "25" gives fault 8) ∷
+    (value "delay" "4.2" gives right (decimal (pos 42) 1)) ∷
+    (value "delay" "-4.2" gives fault 9) ∷
+    (value "delay" "0" gives fault 10) ∷
+    (value "doppler" "-12.5" gives right (decimal (negℤ (pos 125)) 1)) ∷
+    (value "rmsDoppler" "1234567" gives fault 8) ∷
+    (value "frq" "2380." gives right (decimal (pos 2380) 0)) ∷
+    (value "com" "0" gives right noValue) ∷
+    (value "com" "1" gives right noValue) ∷
+    (value "com" "2" gives fault 10) ∷
+    (value "com" "00" gives fault 10) ∷
     []

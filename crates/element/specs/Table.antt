@@ -1,4 +1,5 @@
--- The elements in their order: the names and the forms of document 01's table. An element's index is its number less one.
+-- The elements in their order: the names and the forms of document 01's table, and from 30 on of document 02's order 3. An element's index is
+-- its number less one.
 use Prim.Native.Nat.{ℕ, zero, suc, _+_}
 use Prim.Native.String.{String}
 use mathlib.Core.Bool.{true, false, cond}
@@ -8,11 +9,11 @@ use lib.ListN.{getD}
 use Rattle.text.specs.Bytes.{bytes}
 use Rattle.text.specs.Part.{same}
 use Rattle.element.specs.declared.form.Form.{Form}
-use Rattle.element.specs.declared.form.Form.the-variants.{Unknown, PermID, ProvID, ArtSat, Alphanumeric, Free, Mode, System, Centre, Decimal, Correlation, Time, RightAscension, Declination}
+use Rattle.element.specs.declared.form.Form.the-variants.{Unknown, PermID, ProvID, ArtSat, Alphanumeric, Free, Mode, System, Centre, Decimal, Correlation, Time, RightAscension, Declination, Flag}
 
 -- How many elements there are.
 abbrev pub elements : ℕ
-elements = 29
+elements = 37
 
 -- An element: its name and its form.
 pub record Element : Type 0 where
@@ -56,6 +57,14 @@ table =
     ("photAp" is Decimal 6 false) ∷
     ("notes" is Alphanumeric 1 6) ∷
     ("remarks" is Free 300) ∷
+    ("trx" is Alphanumeric 3 4) ∷
+    ("rcv" is Alphanumeric 3 4) ∷
+    ("delay" is Decimal 14 false) ∷
+    ("rmsDelay" is Decimal 6 false) ∷
+    ("doppler" is Decimal 14 true) ∷
+    ("rmsDoppler" is Decimal 6 false) ∷
+    ("frq" is Decimal 14 false) ∷
+    ("com" is Flag) ∷
     []
 
 -- The names, by index.
@@ -92,6 +101,6 @@ indexIn (first ∷ rest) name = cond (same name first) 0 (suc (indexIn rest name
 unfoldable pub indexOf : List ℕ → ℕ
 indexOf name = indexIn names name
 
--- The number of the element of a name, 1 to 29; 0 where there is none.
+-- The number of the element of a name, 1 to 37; 0 where there is none.
 unfoldable pub elementNumber : List ℕ → ℕ
 elementNumber name = cond (ltb (indexOf name) elements) (indexOf name + 1) 0

@@ -46,20 +46,32 @@ pub fn name_bytes(set: u64) -> u64
     name_bytes_in(set, &STARTS)
 }
 
-// The same; `starts` says where each name starts among all names.
+// The same; `starts` says where each name starts among all names. It goes from one element of the set to the next.
 fn name_bytes_in(set: u64, starts: &[u8]) -> u64
     requires { ⌜ now starts ≡ nameStarts ⌝ }
     ensures { λ r. ⌜ r ≡ nameBytes set ⌝ }
 {
     let mut left = set;
-    let mut sum: u32 = 0;
+    let mut sum: u64 = 0;
     let mut e: usize = 0;
-    while e < ELEMENTS {
-        sum += length_if(left % 2, length_in(starts, e));
-        left = left / 2;
-        e += 1;
+    while left != 0 {
+        let skip = u64::trailing_zeros(left) as usize;
+        let next = e + skip;
+        if ELEMENTS <= next {
+            return sum;
+        }
+        sum += wide(length_in(starts, next));
+        left = (left >> skip) / 2;
+        e = next + 1;
     }
-    sum as u64
+    sum
+}
+
+// A number of 16 bits as one of 64.
+fn wide(number: u16) -> u64
+    ensures { λ r. ⌜ r ≡ number ⌝ }
+{
+    number as u64
 }
 
 // The bytes of the values of the set's elements, from the lengths noted for all elements; a length that is not given counts 0.

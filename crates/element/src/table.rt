@@ -5,11 +5,11 @@ ghost use mathlib.Core.Path.{_≡_};
 ghost use Rattle.element.specs.Table.{formOf};
 
 // The names of all elements, one after the other.
-pub(crate) const NAMES: [u8; 147] =
-    *b"permIDprovIDartSattrkSubobsIDobsSubIDmodestnsysctrpos1pos2pos3progobsTimermsTimeradecrmsRArmsDecrmsCorrastCatmagrmsMagbandphotCatphotApnotesremarks";
+pub(crate) const NAMES: [u8; 189] =
+    *b"permIDprovIDartSattrkSubobsIDobsSubIDmodestnsysctrpos1pos2pos3progobsTimermsTimeradecrmsRArmsDecrmsCorrastCatmagrmsMagbandphotCatphotApnotesremarkstrxrcvdelayrmsDelaydopplerrmsDopplerfrqcom";
 
 // The bytes of the longest name.
-pub const LONGEST: usize = 8;
+pub const LONGEST: usize = 10;
 
 // Where each name starts among all of them, and where the last one ends.
 pub(crate) const STARTS: [u8; ELEMENTS + 1] = [
@@ -43,6 +43,14 @@ pub(crate) const STARTS: [u8; ELEMENTS + 1] = [
     135,
     140,
     147,
+    150,
+    153,
+    158,
+    166,
+    173,
+    183,
+    186,
+    189,
 ];
 
 // The elements by index, in the order in which columns are written: element order.
@@ -76,6 +84,14 @@ pub const COLUMN_ORDER: [usize; ELEMENTS] = [
     26,
     27,
     28,
+    29,
+    30,
+    31,
+    32,
+    33,
+    34,
+    35,
+    36,
 ];
 
 // The form of the element of an index.
@@ -112,6 +128,14 @@ pub(crate) fn form_of(index: usize) -> Form
         26 => Form::Decimal(6, false),
         27 => Form::Alphanumeric(1, 6),
         28 => Form::Free(300),
+        29 => Form::Alphanumeric(3, 4),
+        30 => Form::Alphanumeric(3, 4),
+        31 => Form::Decimal(14, false),
+        32 => Form::Decimal(6, false),
+        33 => Form::Decimal(14, true),
+        34 => Form::Decimal(6, false),
+        35 => Form::Decimal(14, false),
+        36 => Form::Flag,
         _ => Form::Unknown,
     }
 }

@@ -1,5 +1,6 @@
 // What to do about a refusal, from the line that it falls on.
 use crate::elements;
+use crate::kinds;
 use crate::names;
 use crate::refusals;
 use inspect::line::element_at;
@@ -19,13 +20,74 @@ pub(crate) fn print_advice(kind: Kind, line: &[u8], columns: &[u8], place: usize
             columns,
             place,
         )),
+        Kind::ElementMissing => print_missing(line, columns, place),
         Kind::GroupIncomplete => print_need(line, columns, place),
+        Kind::KindsMixed => print_mixed(line, columns),
+        Kind::ElementForeign => print_foreign(line, columns, place),
         Kind::UnknownColumn => print_column(line, place),
         Kind::WrongByte | Kind::VersionExpected | Kind::FieldCountDiffers => {
             print_odd(kind, line);
         }
         _ => refusals::print_advice(kind),
     }
+}
+
+// Prints what an observation of its kind must hold, where one element is missing; 32 stands for delay and doppler.
+fn print_missing(line: &[u8], columns: &[u8], missing: usize) {
+    let element = kinds::radar_element(line, columns);
+    if missing == 32 {
+        print::bytes(b"It has neither delay nor doppler.\n");
+    }
+    if element == 0 {
+        kinds::print_optical();
+        return;
+    }
+    print_radar(element);
+    kinds::print_radar();
+}
+
+// Prints that an observation is radar, from the first element that makes it so.
+fn print_radar(element: usize) {
+    print::bytes(b"The observation is ");
+    kinds::print_kind(element);
+}
+
+// Prints which kind a data line is, and which the rows before it are.
+fn print_mixed(line: &[u8], columns: &[u8]) {
+    let element = kinds::radar_element(line, columns);
+    if element == 0 {
+        print::bytes(b"The block's rows before it are radar; this one is ");
+    } else {
+        print::bytes(b"The block's rows before it are optical; this one is ");
+    }
+    kinds::print_kind(element);
+    refusals::print_advice(Kind::KindsMixed);
+}
+
+// Prints why an element is foreign to a data line, and what to do: beside doppler that is delay or rmsDelay, without it rmsDoppler, and an
+// optical observation's element in any radar one.
+fn print_foreign(line: &[u8], columns: &[u8], foreign: usize) {
+    match foreign {
+        32 | 33 => print::bytes(
+            b"It has doppler, and beside doppler delay and rmsDelay are foreign.\n\
+              Write two observations: one with delay and rmsDelay, one with doppler and rmsDoppler.\n",
+        ),
+        35 => print::bytes(
+            b"It has no doppler, and without doppler rmsDoppler is foreign.\n\
+              Give doppler and rmsDoppler, or delay and rmsDelay.\n",
+        ),
+        _ => print_optical(kinds::radar_element(line, columns), foreign),
+    }
+}
+
+// Prints that an optical observation's element stands in a radar one, from the first element that makes it so.
+fn print_optical(element: usize, foreign: usize) {
+    print_radar(element);
+    print::bytes(b"Leave ");
+    elements::print_name(foreign);
+    print::bytes(
+        b" out, or, where the observation is optical, trx, rcv, delay, rmsDelay, doppler, rmsDoppler, frq and com.\n",
+    );
 }
 
 // Prints which element needs the missing one.

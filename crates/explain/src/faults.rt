@@ -1,6 +1,6 @@
 // The faults of a report: the first, and after it the first of each later line, as far as that makes sense. The first is what `check`
-// answers; the others are help for a person. Each line is judged by itself, as the last line of a report of its block's column line
-// and itself alone.
+// answers; the others are help for a person. Each line is judged by itself, as the last line of a report of its block's column line, the
+// last row before it in the block that could be read, and itself. So 21 is told at each row where a block of the other kind has to begin.
 use crate::refusals;
 use crate::refusals::REFUSALS;
 use inspect::oddity::Oddity;
@@ -33,11 +33,13 @@ enum Before {
     Data,
 }
 
-// What is known before a line: what stands there, where the block's column line starts, and how many data lines there were.
+// What is known before a line: what stands there, where the block's column line starts, how many data lines there were, and where the
+// block's last row starts that could be read, 0 where it has none.
 struct Known {
     before: Before,
     columns: usize,
     rows: usize,
+    row: usize,
 }
 
 // Prints the first fault of a report and those after it, and the rules that are broken.
@@ -47,7 +49,7 @@ pub fn print_faults(report: &[u8], first: Refusal) {
     list_rest(report, first.line, &mut told);
     print_rules(&told);
     print::bytes(
-        b"The first line is what `ades check` answers. Those after it are help: each line is judged by itself, under its block's column line.\n",
+        b"The first line is what `ades check` answers. Those after it are help: each line is judged by itself, under its block's column line, and its kind by the last right row before it.\n",
     );
 }
 
@@ -61,6 +63,7 @@ fn list_rest(report: &[u8], first: usize, told: &mut [u8]) {
         before: Before::Nothing,
         columns: 0,
         rows: 0,
+        row: 0,
     };
     let mut start: usize = 0;
     let mut number: usize = 0;
@@ -87,8 +90,8 @@ fn judge(report: &[u8], start: usize, known: Known, space: &mut [u8]) -> Fault {
     }
     match before {
         Before::Nothing => Fault::Sound,
-        Before::Version => judge_under(b"", line, 2, space),
-        _ => judge_data(line_at(report, known.columns), line, known.rows, space),
+        Before::Version => judge_under(b"", b"", line, 2, space),
+        _ => judge_data(report, known, line, space),
     }
 }
 
@@ -101,19 +104,24 @@ fn judge_version(line: &[u8], before: Before) -> Fault {
     fault
 }
 
-// The fault of a data line under a column line, after so many others.
-fn judge_data(columns: &[u8], line: &[u8], rows: usize, space: &mut [u8]) -> Fault {
-    if ROW_LIMIT <= rows {
+// The fault of a data line.
+fn judge_data(report: &[u8], known: Known, line: &[u8], space: &mut [u8]) -> Fault {
+    let columns = line_at(report, known.columns);
+    if ROW_LIMIT <= known.rows {
         return Fault::At(Kind::TooManyRows, 0);
     }
-    judge_under(columns, line, 3, space)
+    if known.row == 0 {
+        return judge_under(columns, b"", line, 3, space);
+    }
+    judge_under(columns, line_at(report, known.row), line, 4, space)
 }
 
-// The fault of a line as the last of a report, under a version line and a column line, if there is one.
-fn judge_under(columns: &[u8], line: &[u8], number: usize, space: &mut [u8]) -> Fault {
+// The fault of a line as the last of a report, the line of that number, under a version line, a column line and a row, if there are any.
+fn judge_under(columns: &[u8], row: &[u8], line: &[u8], number: usize, space: &mut [u8]) -> Fault {
     let version = put_at(b"# version=2022\n", 0, space);
     let head = put_at(columns, version, space);
-    let length = put_at(line, head, space);
+    let before = put_at(row, head, space);
+    let length = put_at(line, before, space);
     fault_in(front(space, length), number)
 }
 
@@ -165,6 +173,7 @@ fn known_after(report: &[u8], start: usize, known: Known, fault: Fault) -> Known
             before: Before::Version,
             columns: 0,
             rows: known.rows,
+            row: 0,
         };
     }
     match before {
@@ -174,6 +183,7 @@ fn known_after(report: &[u8], start: usize, known: Known, fault: Fault) -> Known
             before: Before::Data,
             columns: known.columns,
             rows: one_more(known.rows),
+            row: last_row(start, known.row, fault),
         },
     }
 }
@@ -185,13 +195,36 @@ fn columns_known(start: usize, rows: usize, sound: bool) -> Known {
             before: Before::Columns,
             columns: start,
             rows,
+            row: 0,
         }
     } else {
         Known {
             before: Before::Nothing,
             columns: 0,
             rows,
+            row: 0,
         }
+    }
+}
+
+// Where the last row starts that could be read: a row that starts at a place, where it has no fault but its kind, otherwise the one before.
+fn last_row(start: usize, before: usize, fault: Fault) -> usize {
+    match fault {
+        Fault::Sound => start,
+        Fault::At(kind, _) => either(is_mixed(kind), start, before),
+    }
+}
+
+// The first number where the test is true, otherwise the second.
+fn either(test: bool, first: usize, second: usize) -> usize {
+    if test { first } else { second }
+}
+
+// Whether a kind of refusal is that of kinds mixed in a block.
+fn is_mixed(kind: Kind) -> bool {
+    match kind {
+        Kind::KindsMixed => true,
+        _ => false,
     }
 }
 

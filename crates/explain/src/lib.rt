@@ -2,6 +2,7 @@
 mod advice;
 pub mod elements;
 pub mod faults;
+mod kinds;
 mod line;
 pub mod names;
 mod places;

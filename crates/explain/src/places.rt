@@ -1,6 +1,7 @@
 // Where a fault lies: the offending line with a mark under the field, and what the place of a refusal means.
 use crate::advice;
 use crate::elements;
+use crate::kinds;
 use crate::line;
 use inspect::line::column_of;
 use inspect::line::columns_before;
@@ -47,15 +48,19 @@ fn print_marked(kind: Kind, text: &[u8], columns: &[u8], place: usize) {
     }
 }
 
-// What the place of a refusal of a kind is.
+// What the place of a refusal of a kind is. Every kind is named, so that a new one is not forgotten here.
 fn mark_of(kind: Kind) -> Mark {
     match kind {
         Kind::WrongByte => Mark::Byte,
         Kind::UnknownColumn | Kind::ColumnTwice => Mark::Column,
         Kind::TooWide | Kind::WrongForm | Kind::OutOfRange => Mark::Column,
         Kind::ElementMissing | Kind::GroupIncomplete | Kind::CentreNotEarth => Mark::Element,
+        Kind::ElementForeign => Mark::Element,
         Kind::FieldCountDiffers => Mark::Count,
-        _ => Mark::Nothing,
+        Kind::TextTooLong | Kind::NoLineEnd | Kind::VersionExpected => Mark::Nothing,
+        Kind::BlockUnfinished | Kind::TooManyRows | Kind::KindsMixed => Mark::Nothing,
+        Kind::OutputTooShort | Kind::NoObservation | Kind::NoElement => Mark::Nothing,
+        Kind::ListTooShort | Kind::BadRecord | Kind::NotOptical => Mark::Nothing,
     }
 }
 
@@ -83,7 +88,7 @@ fn print_column(text: &[u8], columns: &[u8], place: usize) {
 
 // Prints a line after the name of an element, with a mark under its field if it has a column.
 fn print_element(text: &[u8], columns: &[u8], element: usize) {
-    print_which(element);
+    print_which(element, kinds::radar_element(text, columns) != 0);
     let place = column_of(columns, element);
     if place == 0 {
         line::print_line(text);
@@ -93,15 +98,17 @@ fn print_element(text: &[u8], columns: &[u8], element: usize) {
     }
 }
 
-// Prints which element a fault is about; 1 stands for the four of an identification.
-fn print_which(element: usize) {
-    if element == 1 {
+// Prints which element a fault is about; 1 stands for those of an identification, which are two in a radar observation.
+fn print_which(element: usize, radar: bool) {
+    if element != 1 {
+        print::between(b"Element ", element as u64, b", ");
+        elements::print_name(element);
+        print::bytes(b":\n");
+    } else if radar {
+        print::bytes(b"Elements 1 and 2, permID and provID:\n");
+    } else {
         print::bytes(b"Elements 1 to 4, permID, provID, artSat and trkSub:\n");
-        return;
     }
-    print::between(b"Element ", element as u64, b", ");
-    elements::print_name(element);
-    print::bytes(b":\n");
 }
 
 // Prints a line after the number of its fields and that of the columns.

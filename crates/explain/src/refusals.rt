@@ -1,4 +1,5 @@
 // The refusals in words, by their numbers.
+use crate::kinds;
 use element::ELEMENTS;
 use inspect::table::entry;
 use refusal::Kind;
@@ -7,7 +8,7 @@ use report::TEXT_LIMIT;
 use words::print;
 
 // How many refusals there are.
-pub const REFUSALS: usize = 20;
+pub const REFUSALS: usize = 23;
 
 // What the table says of a refusal, by column: the rule that is broken, what to do, what line and place are, which definition states the rule.
 const RULE: usize = 0;
@@ -42,6 +43,7 @@ pub fn print_all(number: usize) {
     print_entry(number, RULE);
     print_limit(number);
     print_entry(number, ADVICE);
+    print_kinds(number);
     print::bytes(b"Line: ");
     print_entry(number, LINE);
     print::bytes(b"Place: ");
@@ -67,6 +69,18 @@ fn print_limit(number: usize) {
             b".\n",
         ),
         20 => print_record(),
+        _ => {}
+    }
+}
+
+// Prints what each kind of observation must hold, or what may not stand in it, if a rule speaks of it.
+fn print_kinds(number: usize) {
+    match number {
+        11 => {
+            kinds::print_optical();
+            kinds::print_radar();
+        }
+        22 => kinds::print_foreign(),
         _ => {}
     }
 }
@@ -111,9 +125,9 @@ fn print_entry(row: usize, column: usize) {
             counted from 1|`faultOf` (crates/element/specs/Form.antt)\n\
           The value is out of its range or vocabulary.|Look at the value: `ades element NAME` says its range or its words.|the data line|\
             the column's position, counted from 1|`faultOf` (crates/element/specs/Form.antt)\n\
-          The observation lacks an element that it must have.|An observation has mode, stn, obsTime, ra, dec and astCat, and one of \
-            permID, provID, artSat and trkSub.|the data line|the element's number; 1 where elements 1 to 4 are all missing|`faultIn` \
-            (crates/element/specs/Observation.antt)\n\
+          The observation lacks an element that it must have.|Give the observation that element.|the data line|the element's number; 1 \
+            stands for elements 1 to 4 of an optical observation, all missing, and for 1 and 2 of a radar one; 32 for its delay and \
+            doppler, both missing|`faultIn` (crates/element/specs/Observation.antt)\n\
           The observation has a group of elements that is not complete.|Give the missing element, or leave those out that need it.|the \
             data line|the number of the lowest missing element|`groupFault` (crates/element/specs/Observation.antt)\n\
           With sys WGS84 the ctr must be 399.|Write 399 as its ctr, or the sys that its position is in.|the data line|10, the number of \
@@ -132,7 +146,13 @@ fn print_entry(row: usize, column: usize) {
           The list has no room for that record.|Lend 40 bytes for each observation up to that one.|0|0|`writtenAnswer` \
             (crates/night/specs/List.antt)\n\
           No accepted observation at that place could have written this record.|Write the list anew from its report.|0|the record's \
-            number, counted from 1|`isRecord` (crates/night/specs/Record.antt)\n",
+            number, counted from 1|`isRecord` (crates/night/specs/Record.antt)\n\
+          The observation is of another kind than those before it in its block, and a block holds one kind, optical or radar.|Begin a \
+            new block before it: a version line and a column line.|the data line|0|`ofKind` (crates/report/specs/Report.antt)\n\
+          The element is foreign to the kind of its observation.|Leave it out, or write it in an observation to which it belongs.|the data \
+            line|the number of the lowest such element|`radarFault` (crates/element/specs/Observation.antt)\n\
+          The observation is radar, and a night list has records of optical ones alone.|Write the list of a report that has no radar \
+            observation.|0|0|`writtenAnswer` (crates/night/specs/List.antt)\n",
         row,
         column,
     ));

@@ -2,7 +2,7 @@
 -- without blanks at its ends, of bytes 0x20 to 0x7E and without bars. And that an accepted report has no more rows than the limit.
 use Prim.Native.Nat.{ℕ, zero, suc, _≤_, _<_, _+_}
 use mathlib.Core.Path.{_≡_, refl, ap, sym, _∙_}
-use mathlib.Core.Bool.{true, cond}
+use mathlib.Core.Bool.{Bool, true, cond}
 use mathlib.Core.List.{List, [], _∷_}
 use native.Mathlib.Omega.{arith}
 use lib.Dec.{eqb, ltb}
@@ -23,7 +23,7 @@ use Rattle.report.specs.declared.state.Need.{Need}
 use Rattle.report.specs.declared.state.Need.the-variants as Need
 use Rattle.report.specs.Report.{rowLimit, versionLine, isHash, State, Step, next, row, bad, member, columnsFrom, orNext, fieldFault, fill, rowOf, rowUnless, dataLine, opened, other, step, accepted, afterRow, after, readFrom, begin, read}
 use Rattle.report.proofs.Long.{row-long}
-use Rattle.report.proofs.Join.{bad≢row, next≢row, refused≢accepted, more-accepted, end-opens, read-accepted}
+use Rattle.report.proofs.Join.{bad≢row, next≢row, refused≢accepted, more-accepted, kind-row, end-opens, read-accepted}
 use Rattle.element.proofs.Forms.{fault-absent}
 use Rattle.layout.proofs.FieldLaws.{isClean, Cleans, none, one, trim-twice, clean-trim, fields-clean}
 
@@ -156,11 +156,12 @@ columns-row (f ∷ fs) seen o h =
     (λ e. bad≢row (rw e at h))
 
 -- Neither does any line before the column line: what does is a data line.
-other-taken : (need : Need) (columns : List ℕ) (k : ℕ) (l : List ℕ) (o : Observation) → other need columns k l ≡ row o → Taken columns k l o
-other-taken Need.Version columns k l o h = absurd (bad≢row h)
-other-taken Need.Columns columns k l o h = absurd (columns-row (fields l) [] o h)
-other-taken Need.Row columns k l o h = data-taken columns k l o h
-other-taken Need.Nothing columns k l o h = data-taken columns k l o h
+other-taken : (need : Need) (columns : List ℕ) (radar : Bool) (k : ℕ) (l : List ℕ) (o : Observation) → other need columns radar k l ≡ row o
+    → Taken columns k l o
+other-taken Need.Version columns radar k l o h = absurd (bad≢row h)
+other-taken Need.Columns columns radar k l o h = absurd (columns-row (fields l) [] o h)
+other-taken Need.Row columns radar k l o h = data-taken columns k l o h
+other-taken Need.Nothing columns radar k l o h = data-taken columns k l o (kind-row radar (dataLine columns k l) o h .0)
 
 -- A version line comes to no observation.
 pub opened-row : (need : Need) (o : Observation) → opened need ≡ row o → ⊥
@@ -178,7 +179,7 @@ step-taken s k l o h =
     (λ b. bools (same l versionLine)
     (λ c. absurd (opened-row (s .need) o (rw (a, b, c) at h)))
     (λ c. absurd (bad≢row (rw (a, b, c) at h))))
-    (λ b. (a, other-taken (s .need) (s .columns) k l o (rw (a, b) at h))))
+    (λ b. (a, other-taken (s .need) (s .columns) (s .radar) k l o (rw (a, b) at h))))
     (λ a. absurd (bad≢row (rw a at h)))
 
 -- Lines.
@@ -196,8 +197,8 @@ lines-right (line l ls) s n k L h = by-step (step s k l) refl (λ t j M e. lines
         → after x n s k (λ t j. readFrom t (suc n) j ls) ≡ accepted L → AllRight L × (k ≤ rowLimit → k + length L ≤ rowLimit)
     by-step (next t) e ih h = ih t k L h
     by-step (row o) e ih h =
-        let r = more-accepted o (readFrom (afterRow s) (suc n) (suc k) ls) L h in
-        let i = ih (afterRow s) (suc k) (r .0) (r .1) in
+        let r = more-accepted o (readFrom (afterRow o s) (suc n) (suc k) ls) L h in
+        let i = ih (afterRow o s) (suc k) (r .0) (r .1) in
         let q = step-taken s k l o e in
         let z : suc k + length (r .0) ≤ rowLimit = i .1 (q .1 .few) in
         let c : length L ≡ suc (length (r .0)) = ap length (r .2) in

@@ -16,10 +16,11 @@ use Rattle.element.specs.Table.{elements, nameOf, upward, columnOrder}
 use Rattle.element.specs.Observation.{Observation, isPresent, bit, setOf}
 use Rattle.element.specs.Set.{has, lengthIf, bytesIn, nameLengths, nameBytes}
 use Rattle.cuts.specs.Cuts.{cost}
-use Rattle.cuts.specs.Block.{union, valueBytes, rowCount, bytesOf, blockBytes}
+use Rattle.cuts.specs.Block.{Row, union, valueBytes, rowCount, bytesOf, blockBytes}
+use Rattle.cuts.specs.Plan.{Marked, markedBytes}
 use Rattle.cuts.proofs.CutLaws.{cost-map}
 use Rattle.layout.specs.Written.{isAnywhere, passing, columnsOf, barred, lineOf, namesAt, valuesAt, dataLines, blockText, written, Valid}
-use Rattle.layout.specs.Cost.{sizeOf, asRow}
+use Rattle.layout.specs.Cost.{sizeOf, asRow, asMarked}
 use Rattle.element.proofs.Sets.{has-set, set-below, name-lengths-length, name-length}
 use Rattle.layout.proofs.ColumnLaws.{weigh, passing-weighs, same-weight, one-weighs, upward-weighs, order-weighs, columns-present}
 use Rattle.layout.proofs.FieldLaws.{line-length, map-size}
@@ -224,6 +225,14 @@ block-bytes o os r =
     block-length o os r
     ∙ rw (columns-ones (o ∷ os) r, columns-names (o ∷ os), rows-bytes (ones (setFor (o ∷ os))) (o ∷ os)) (omega arith)
 
+-- What a block costs as the search is given its rows.
+marked-bytes : (rows : List Observation) → markedBytes (map asMarked rows) ≡ blockBytes (map asRow rows)
+marked-bytes rows = ap blockBytes (rows-of rows)
+  where
+    rows-of : (rows : List Observation) → map (λ (marked : Marked). marked .row) (map asMarked rows) ≡ map asRow rows
+    rows-of [] = refl
+    rows-of (o ∷ os) = ap (λ (x : List Row). asRow o ∷ x) (rows-of os)
+
 -- The same of every block.
 blocks-bytes : (cuts : List ℕ) (L : List Observation) → Valid cuts L → AllRight L → length (written cuts L) ≡ cost (λ rows. blockBytes (map asRow rows)) cuts L
 unfolding written
@@ -239,6 +248,6 @@ blocks-bytes (suc k ∷ ks) (o ∷ os) v r =
     )
 
 -- A written report has the bytes that the search counts for its cuts.
-pub written-bytes : (cuts : List ℕ) (L : List Observation) → Valid cuts L → AllRight L → length (written cuts L) ≡ cost blockBytes cuts (map asRow L)
+pub written-bytes : (cuts : List ℕ) (L : List Observation) → Valid cuts L → AllRight L → length (written cuts L) ≡ cost markedBytes cuts (map asMarked L)
 written-bytes cuts L v r =
-    blocks-bytes cuts L v r ∙ sym (cost-map asRow blockBytes (λ rows. blockBytes (map asRow rows)) (λ rows. refl) cuts L)
+    blocks-bytes cuts L v r ∙ sym (cost-map asMarked markedBytes (λ rows. blockBytes (map asRow rows)) marked-bytes cuts L)

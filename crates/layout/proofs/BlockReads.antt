@@ -1,7 +1,7 @@
 -- A written block reads back as its rows.
 use Prim.Native.Nat.{ℕ, zero, suc, _≤_, _<_, _+_}
 use mathlib.Core.Path.{_≡_, refl, sym, _∙_}
-use mathlib.Core.Bool.{Bool, true, false, not, _||_, true≢false}
+use mathlib.Core.Bool.{Bool, true, false, not, _||_, true≢false, Bool·beq}
 use mathlib.Core.List.{List, [], _∷_, _++_, append-assoc, append-nil}
 use native.Mathlib.Omega.{arith}
 use lib.Dec.{eqb, ltb}
@@ -14,11 +14,11 @@ use Rattle.text.proofs.Bools.{bools}
 use Rattle.text.proofs.Parts.{same-is}
 use Rattle.refusal.specs.declared.Fault.the-variants.{Sound}
 use Rattle.element.specs.Table.{elements, nameOf, columnOrder}
-use Rattle.element.specs.Observation.{Observation, isPresent, holdsAny}
+use Rattle.element.specs.Observation.{Observation, isPresent, isRadar, holdsAny}
 use Rattle.report.specs.declared.state.Need.{Need}
 use Rattle.report.specs.declared.state.Need.the-variants as Need
 use Rattle.report.specs.Report.{textLimit, rowLimit, versionLine, isHash, next, row, member, columnsFrom, fieldFault, fill, rowOf, dataLine, other, step, accepted, readFrom, begin, read}
-use Rattle.report.proofs.Join.{read-within}
+use Rattle.report.proofs.Join.{row-kind, read-within}
 use Rattle.layout.specs.Written.{isAnywhere, passing, columnsOf, barred, lineOf, namesAt, valuesAt, dataLines, blockText}
 use Rattle.text.proofs.Table.{below}
 use Rattle.text.proofs.Bools.{T-true}
@@ -64,7 +64,7 @@ member-append e (c ∷ a) b = bools (eqb c e) (λ q. rw q) (λ q. rw (q, member-
 
 -- Columns that stand once each, none of them seen, are read from their names.
 columns-read : (seen cs : List ℕ) → isDistinct cs ≡ true → ((e : ℕ) → member e cs ≡ true → (e < elements) × (member e seen ≡ false))
-    → columnsFrom seen (namesAt cs) ≡ next (record { need = Need.Row; columns = seen ++ cs })
+    → columnsFrom seen (namesAt cs) ≡ next (record { need = Need.Row; columns = seen ++ cs; radar = false })
 unfolding columnsFrom
 columns-read seen [] d h = rw append-nil
 columns-read seen (c ∷ cs) d h =
@@ -98,7 +98,8 @@ barred-unhashed v (w ∷ vs) h = start-unhashed v (barred (w ∷ vs)) h
 
 -- The column line of a block names its columns.
 step-names : (c : ℕ) (cs : List ℕ) → isDistinct (c ∷ cs) ≡ true → Known (c ∷ cs)
-    → step (record { need = Need.Columns; columns = [] }) 0 (barred (namesAt (c ∷ cs))) ≡ next (record { need = Need.Row; columns = c ∷ cs })
+    → step (record { need = Need.Columns; columns = []; radar = false }) 0 (barred (namesAt (c ∷ cs)))
+    ≡ next (record { need = Need.Row; columns = c ∷ cs; radar = false })
 unfolding step
 step-names c cs d h =
     rw (
@@ -109,7 +110,7 @@ step-names c cs d h =
     (columns-read [] (c ∷ cs) d (λ e m. (h e m, refl)))
 
 -- The version line opens it.
-step-version : step begin 0 versionLine ≡ next (record { need = Need.Columns; columns = [] })
+step-version : step begin 0 versionLine ≡ next (record { need = Need.Columns; columns = []; radar = false })
 unfolding step same
 step-version = refl
 
@@ -223,28 +224,39 @@ data-read c cs k o r u h =
     )
 
 -- A data line of a block, where it may stand: its first column is one of elements 1 to 4, so it does not begin with `#`.
-step-read : (need : Need) (c : ℕ) (cs : List ℕ) (k : ℕ) (o : Observation) → c < 4 → Right o → Under (c ∷ cs) o → k < rowLimit
-    → other need (c ∷ cs) k (barred (valuesAt (c ∷ cs) o)) ≡ dataLine (c ∷ cs) k (barred (valuesAt (c ∷ cs) o))
-    → step (record { need = need; columns = c ∷ cs }) k (barred (valuesAt (c ∷ cs) o)) ≡ row o
+step-read : (need : Need) (c : ℕ) (cs : List ℕ) (radar : Bool) (k : ℕ) (o : Observation) → c < 4 → Right o
+    → other need (c ∷ cs) radar k (barred (valuesAt (c ∷ cs) o)) ≡ row o
+    → step (record { need = need; columns = c ∷ cs; radar = radar }) k (barred (valuesAt (c ∷ cs) o)) ≡ row o
 unfolding step
-step-read need c cs k o i r u h q =
+step-read need c cs radar k o i r q =
     rw (
       barred-printable (valuesAt (c ∷ cs) o) (values-clean o r (c ∷ cs)),
       barred-unhashed (getD o c []) (valuesAt cs o) (unhashed c i (getD o c []) (r .values c .fine)),
       q,
     )
-    (data-read c cs k o r u h)
 
--- The data lines of a block read back as its rows.
-rows-read : (c : ℕ) (cs : List ℕ) (rows : List Observation) (n k : ℕ) → c < 4 → AllRight rows → AllUnder (c ∷ cs) rows → k + length rows ≤ rowLimit
-    → readFrom (record { need = Need.Nothing; columns = c ∷ cs }) n k (lines (dataLines (c ∷ cs) rows)) ≡ accepted rows
+-- Each of the rows is radar or none is.
+abbrev pub AllOfKind : Bool → List Observation → Type 0
+AllOfKind radar [] = Unit
+AllOfKind radar (o ∷ os) = (isRadar o ≡ radar) × AllOfKind radar os
+
+-- A test agrees with itself.
+agrees : (a b : Bool) → a ≡ b → Bool·beq b a ≡ true
+agrees a true e = rw e
+agrees a false e = rw e
+
+-- The data lines of a block read back as its rows, after rows of their kind.
+rows-read : (c : ℕ) (cs : List ℕ) (radar : Bool) (rows : List Observation) (n k : ℕ) → c < 4 → AllRight rows → AllUnder (c ∷ cs) rows
+    → AllOfKind radar rows → k + length rows ≤ rowLimit
+    → readFrom (record { need = Need.Nothing; columns = c ∷ cs; radar = radar }) n k (lines (dataLines (c ∷ cs) rows)) ≡ accepted rows
 unfolding readFrom dataLines
-rows-read c cs [] n k i r u h = refl
-rows-read c cs (o ∷ os) n k i r u h =
+rows-read c cs radar [] n k i r u a h = refl
+rows-read c cs radar (o ∷ os) n k i r u a h =
     rw (
       lines-line-of (valuesAt (c ∷ cs) o) (dataLines (c ∷ cs) os) (barred-printable (valuesAt (c ∷ cs) o) (values-clean o (r .0) (c ∷ cs))),
-      step-read Need.Nothing c cs k o i (r .0) (u .0) (omega arith) refl,
-      rows-read c cs os (suc n) (suc k) i (r .1) (u .1) (omega arith),
+      step-read Need.Nothing c cs radar k o i (r .0) (row-kind radar _ o (data-read c cs k o (r .0) (u .0) (omega arith)) (agrees _ _ (a .0))),
+      a .0,
+      rows-read c cs radar os (suc n) (suc k) i (r .1) (u .1) (a .1) (omega arith),
     )
 
 -- Where one of the first few of a list passes, the first that passes is one of them.
@@ -296,25 +308,25 @@ block-lines c cs o os q h r =
 
 -- They read back, from the beginning of a text.
 block-from : (c : ℕ) (cs : List ℕ) (o : Observation) (os : List Observation) → c < 4 → isDistinct (c ∷ cs) ≡ true
-    → Known (c ∷ cs) → AllRight (o ∷ os) → AllUnder (c ∷ cs) (o ∷ os) → length (o ∷ os) ≤ rowLimit
+    → Known (c ∷ cs) → AllRight (o ∷ os) → AllUnder (c ∷ cs) (o ∷ os) → AllOfKind (isRadar o) os → length (o ∷ os) ≤ rowLimit
     → readFrom begin 1 0 (line versionLine (line (barred (namesAt (c ∷ cs))) (line (barred (valuesAt (c ∷ cs) o)) (lines (dataLines (c ∷ cs) os)))))
     ≡ accepted (o ∷ os)
 unfolding readFrom
-block-from c cs o os i d b r u few =
+block-from c cs o os i d b r u a few =
     rw (
       step-version,
       step-names c cs d b,
-      step-read Need.Row c cs 0 o i (r .0) (u .0) (omega arith) refl,
-      rows-read c cs os 4 1 i (r .1) (u .1) (omega arith),
+      step-read Need.Row c cs false 0 o i (r .0) (data-read c cs 0 o (r .0) (u .0) (omega arith)),
+      rows-read c cs (isRadar o) os 4 1 i (r .1) (u .1) a (omega arith),
     )
 
--- A written block reads back as its rows.
-pub block-reads : (o : Observation) (os : List Observation) → AllRight (o ∷ os) → length (o ∷ os) ≤ rowLimit → length (blockText (o ∷ os)) ≤ textLimit
-    → read (blockText (o ∷ os)) ≡ accepted (o ∷ os)
-block-reads o os r few short =
+-- A written block of rows of one kind reads back as its rows.
+pub block-reads : (o : Observation) (os : List Observation) → AllRight (o ∷ os) → AllOfKind (isRadar o) os → length (o ∷ os) ≤ rowLimit
+    → length (blockText (o ∷ os)) ≤ textLimit → read (blockText (o ∷ os)) ≡ accepted (o ∷ os)
+block-reads o os r a few short =
     let f = first-column o os (r .0) in
     let u : AllUnder (f .0 ∷ f .1) (o ∷ os) = rw (f .3) at (block-under (o ∷ os) r) in
     let d : isDistinct (f .0 ∷ f .1) ≡ true = rw (f .3) at (columns-distinct (o ∷ os)) in
     let b : Known (f .0 ∷ f .1) = rw (f .3) at (columns-below (o ∷ os)) in
     read-within (blockText (o ∷ os)) (o ∷ os) short
-    (rw (block-lines (f .0) (f .1) o os (f .3) b (r .0)) (block-from (f .0) (f .1) o os (f .2) d b r u few))
+    (rw (block-lines (f .0) (f .1) o os (f .3) b (r .0)) (block-from (f .0) (f .1) o os (f .2) d b r u a few))

@@ -1,25 +1,27 @@
 -- No text is shorter than its observations written by some cuts: the cuts of its own blocks.
 use Prim.Native.Nat.{ℕ, zero, suc, _≤_, _<_, _+_}
 use mathlib.Core.Path.{_≡_, refl, ap, sym, _∙_}
-use mathlib.Core.Bool.{true, false, true≢false}
+use mathlib.Core.Bool.{Bool, true, false, true≢false, Bool·beq}
 use mathlib.Core.List.{List, [], _∷_, _++_}
 use native.Mathlib.Omega.{arith}
 use lib.Dec.{eqb, ltb}
 use lib.ListN.{length, take, drop, getD, set, replicate, length-append}
 use lib.Seq.{getD-set-other, take-append-seam, drop-append-seam}
-use borrow.Author.Tests.{eqb-false, ltb-true}
+use borrow.Author.Tests.{eq-eqb, eqb-false, ltb-true}
 use Rattle.text.specs.Part.{same}
 use Rattle.text.specs.Lines.{lineFeed, Lines, end, cut, line, lines, onto, fields, trim, printable}
 use Rattle.text.proofs.Bools.{bools}
 use Rattle.text.proofs.Parts.{same-is}
 use Rattle.element.specs.Table.{elements, names, nameOf, indexOf, indexIn}
-use Rattle.element.specs.Observation.{Observation, isPresent}
+use Rattle.element.specs.Observation.{Observation, isPresent, isRadar, bit}
 use Rattle.report.specs.declared.state.Need.{Need}
 use Rattle.report.specs.declared.state.Need.the-variants as Need
-use Rattle.report.specs.Report.{versionLine, isHash, State, Step, next, row, bad, member, columnsFrom, fill, opened, other, step, accepted, atEnd, afterRow, after, readFrom, begin, read}
-use Rattle.report.proofs.Join.{bad≢next, bad≢row, refused≢accepted, more-accepted, read-accepted, data-next}
-use Rattle.layout.specs.Written.{isAnywhere, columnsOf, blockText, written, Valid}
+use Rattle.report.specs.Report.{versionLine, isHash, State, Step, next, row, bad, member, columnsFrom, fill, dataLine, opened, other, step, accepted, atEnd, afterRow, after, readFrom, begin, read}
+use Rattle.report.proofs.Join.{bad≢next, bad≢row, refused≢accepted, more-accepted, read-accepted, data-next, kind-next, kind-row}
+use Rattle.cuts.specs.Cuts.{stretch}
+use Rattle.layout.specs.Written.{isAnywhere, columnsOf, blockText, written, markOf, Valid}
 use Rattle.layout.specs.Cost.{sizeOf}
+use Rattle.layout.proofs.BlockReads.{AllOfKind}
 use Rattle.layout.proofs.ColumnLaws.{weigh, distinct-weighs, suc-weighs, one-weighs, columns-present, columns-distinct}
 use Rattle.layout.proofs.FieldLaws.{trim-le, fields-size}
 use Rattle.layout.proofs.Accepted.{AllRight, right-take, put, blank-at, Taken, step-taken, columns-row, opened-row, lines-right}
@@ -72,7 +74,7 @@ columns-bytes : (fs : List (List ℕ)) (seen : List ℕ) (s : State) → columns
     → (s .need ≡ Need.Row) × (weigh columnBytes (s .columns) ≤ weigh columnBytes seen + (sizeOf fs + length fs))
 unfolding columnsFrom sizeOf
 columns-bytes [] seen s h =
-    let q : record { need = Need.Row; columns = seen } ≡ s = cc in
+    let q : record { need = Need.Row; columns = seen; radar = false } ≡ s = cc in
     (sym (ap (λ (x : State). x .need) q), rw (← q) (omega arith))
 columns-bytes (f ∷ fs) seen s h =
     bools (ltb (indexOf (trim f)) elements)
@@ -148,7 +150,7 @@ taken-bytes columns k l o t =
 
 -- A block begins: its version line.
 abbrev Opens : List ℕ → State → Type 0
-Opens l t = (length l ≡ 14) × (t ≡ record { need = Need.Columns; columns = [] })
+Opens l t = (length l ≡ 14) × (t ≡ record { need = Need.Columns; columns = []; radar = false })
 
 -- A line that comes to no observation: a version line where a block may begin, or a column line with at least the bytes of its names.
 abbrev Next : Need → List ℕ → State → Type 0
@@ -163,12 +165,12 @@ opened-next Need.Columns l t n h = absurd (bad≢next h)
 opened-next Need.Row l t n h = absurd (bad≢next h)
 opened-next Need.Nothing l t n h = (n, cc)
 
-other-next : (need : Need) (columns : List ℕ) (k : ℕ) (l : List ℕ) (t : State) → other need columns k l ≡ next t → Next need l t
+other-next : (need : Need) (columns : List ℕ) (radar : Bool) (k : ℕ) (l : List ℕ) (t : State) → other need columns radar k l ≡ next t → Next need l t
 unfolding weigh
-other-next Need.Version columns k l t h = absurd (bad≢next h)
-other-next Need.Columns columns k l t h = let i = columns-bytes (fields l) [] t h in (i .0, omega (arith, i .1, fields-size l))
-other-next Need.Row columns k l t h = absurd (data-next columns k l t h)
-other-next Need.Nothing columns k l t h = absurd (data-next columns k l t h)
+other-next Need.Version columns radar k l t h = absurd (bad≢next h)
+other-next Need.Columns columns radar k l t h = let i = columns-bytes (fields l) [] t h in (i .0, omega (arith, i .1, fields-size l))
+other-next Need.Row columns radar k l t h = absurd (data-next columns k l t h)
+other-next Need.Nothing columns radar k l t h = absurd (kind-next radar columns k l t h)
 
 step-next : (s : State) (k : ℕ) (l : List ℕ) (t : State) → step s k l ≡ next t → Next (s .need) l t
 unfolding step
@@ -178,17 +180,24 @@ step-next s k l t h =
     (λ b. bools (same l versionLine)
     (λ c. opened-next (s .need) l t (ap (λ (x : List ℕ). length x) (same-is l versionLine c)) (rw (a, b, c) at h))
     (λ c. absurd (bad≢next (rw (a, b, c) at h))))
-    (λ b. other-next (s .need) (s .columns) k l t (rw (a, b) at h)))
+    (λ b. other-next (s .need) (s .columns) (s .radar) k l t (rw (a, b) at h)))
     (λ a. absurd (bad≢next (rw a at h)))
 
--- An observation stands only after a column line.
-abbrev HasColumns : Need → Type 0
-HasColumns Need.Version = ⊥
-HasColumns Need.Columns = ⊥
-HasColumns Need.Row = Unit
-HasColumns Need.Nothing = Unit
+-- An observation stands only after a column line, and after rows of its kind.
+abbrev MayStand : Need → Bool → Observation → Type 0
+MayStand Need.Version radar o = ⊥
+MayStand Need.Columns radar o = ⊥
+MayStand Need.Row radar o = Unit
+MayStand Need.Nothing radar o = isRadar o ≡ radar
 
-step-row : (s : State) (k : ℕ) (l : List ℕ) (o : Observation) → step s k l ≡ row o → HasColumns (s .need)
+-- Tests that agree are equal.
+agree-is : (a b : Bool) → Bool·beq b a ≡ true → a ≡ b
+agree-is true true e = refl
+agree-is true false e = absurd (true≢false (sym e))
+agree-is false true e = absurd (true≢false (sym e))
+agree-is false false e = refl
+
+step-row : (s : State) (k : ℕ) (l : List ℕ) (o : Observation) → step s k l ≡ row o → MayStand (s .need) (s .radar) o
 unfolding step
 step-row s k l o h =
     bools (printable l)
@@ -199,11 +208,11 @@ step-row s k l o h =
     (λ b. other-row (s .need) (rw (a, b) at h)))
     (λ a. absurd (bad≢row (rw a at h)))
   where
-    other-row : (need : Need) → other need (s .columns) k l ≡ row o → HasColumns need
+    other-row : (need : Need) → other need (s .columns) (s .radar) k l ≡ row o → MayStand need (s .radar) o
     other-row Need.Version h = bad≢row h
     other-row Need.Columns h = columns-row (fields l) [] o h
     other-row Need.Row h = tt
-    other-row Need.Nothing h = tt
+    other-row Need.Nothing h = agree-is (isRadar o) (s .radar) (kind-row (s .radar) (dataLine (s .columns) k l) o h .1)
 
 -- Cuts that write observations in no more bytes than some.
 pub record Cutting (L : List Observation) (size : ℕ) : Type 0 where
@@ -211,11 +220,12 @@ pub record Cutting (L : List Observation) (size : ℕ) : Type 0 where
   pub valid : Valid cuts L
   pub within : length (written cuts L) ≤ size
 
--- The same of observations that begin in a block under columns: its rows, and cuts of the others.
-pub record Begun (columns : List ℕ) (L : List Observation) (size : ℕ) : Type 0 where
+-- The same of observations that begin in a block under columns, with rows that are radar or not: its rows, and cuts of the others.
+pub record Begun (columns : List ℕ) (radar : Bool) (L : List Observation) (size : ℕ) : Type 0 where
   pub rows : List Observation
   pub rest : List Observation
   pub is : L ≡ rows ++ rest
+  pub kind : AllOfKind radar rows
   pub under : (e : ℕ) → isAnywhere rows e ≡ true → member e columns ≡ true
   pub cuts : List ℕ
   pub valid : Valid cuts rest
@@ -244,22 +254,29 @@ block-least o os columns r u =
       rows-mono (length own) (length columns) (o ∷ os) few,
     )
 
+-- Rows of one kind may follow each other in a block.
+kind-follows : (radar : Bool) (os rest : List Observation) → AllOfKind radar os → length os ≤ stretch markOf (bit radar) (os ++ rest)
+unfolding stretch
+kind-follows radar [] rest h = omega arith
+kind-follows radar (o ∷ os) rest h = rw (ap bit (h .0), eq-eqb (bit radar) (bit radar) refl) (omega (arith, kind-follows radar os rest (h .1)))
+
 -- A block that a text opens is a cut.
-opened-cutting : (columns : List ℕ) (L : List Observation) (size : ℕ) → AllRight L → (b : Begun columns L size) → 0 < length (b .rows)
-    → Cutting L (15 + weigh columnBytes columns + size)
+opened-cutting : (columns : List ℕ) (radar : Bool) (L : List Observation) (size : ℕ) → AllRight L → (b : Begun columns radar L size)
+    → 0 < length (b .rows) → Cutting L (15 + weigh columnBytes columns + size)
 unfolding written
-opened-cutting columns L size r b p = go (b .rows) p (b .is) (b .under) (b .within)
+opened-cutting columns radar L size r b p = go (b .rows) p (b .is) (b .kind) (b .under) (b .within)
   where
-    go : (rows : List Observation) → 0 < length rows → L ≡ rows ++ b .rest → ((e : ℕ) → isAnywhere rows e ≡ true → member e columns ≡ true)
+    go : (rows : List Observation) → 0 < length rows → L ≡ rows ++ b .rest → AllOfKind radar rows
+        → ((e : ℕ) → isAnywhere rows e ≡ true → member e columns ≡ true)
         → rowsBytes (length columns) rows + length (written (b .cuts) (b .rest)) ≤ size → Cutting L (15 + weigh columnBytes columns + size)
-    go [] p q u w = absurd (omega arith)
-    go (o ∷ os) p q u w =
+    go [] p q k u w = absurd (omega arith)
+    go (o ∷ os) p q k u w =
         let t : take (length os) (os ++ b .rest) ≡ os = take-append-seam os (b .rest) in
         let d : drop (length os) (os ++ b .rest) ≡ b .rest = drop-append-seam os (b .rest) in
         let a : AllRight (o ∷ os) = rw t at (right-take (suc (length os)) (o ∷ (os ++ b .rest)) (rw q at r)) in
         rw q (record {
           cuts = suc (length os) ∷ b .cuts;
-          valid = (omega (arith, length-append os (b .rest)), rw d (b .valid));
+          valid = (rw (ap bit (k .0)) (kind-follows radar os (b .rest) (k .1)), rw d (b .valid));
           within =
               rw (t, d) (omega (
                 arith,
@@ -269,24 +286,25 @@ opened-cutting columns L size r b p = go (b .rows) p (b .is) (b .under) (b .with
         })
 
 -- What is left of a text, by what the block needs: cuts that write its observations in no more bytes.
-abbrev Low : Need → List ℕ → List Observation → ℕ → Type 0
-Low Need.Version columns L size = Cutting L size
-Low Need.Columns columns L size =
-    (named : List ℕ) × (z : ℕ) × (b : Begun named L z) × (0 < length (b .rows)) × (weigh columnBytes named + z ≤ size)
-Low Need.Row columns L size = (b : Begun columns L size) × (0 < length (b .rows))
-Low Need.Nothing columns L size = Begun columns L size
+abbrev Low : Need → List ℕ → Bool → List Observation → ℕ → Type 0
+Low Need.Version columns radar L size = Cutting L size
+Low Need.Columns columns radar L size =
+    (named : List ℕ) × (kind : Bool) × (z : ℕ) × (b : Begun named kind L z) × (0 < length (b .rows)) × (weigh columnBytes named + z ≤ size)
+Low Need.Row columns radar L size = (kind : Bool) × (b : Begun columns kind L size) × (0 < length (b .rows))
+Low Need.Nothing columns radar L size = Begun columns radar L size
 
 -- Within more bytes too.
 wider : (L : List Observation) (y z : ℕ) → Cutting L y → y ≤ z → Cutting L z
 wider L y z c h = record { cuts = c .cuts; valid = c .valid; within = omega (arith, c .within) }
 
 -- Cuts of all observations, as of a block of which no row is left.
-no-rows : (columns : List ℕ) (L : List Observation) (size : ℕ) → Cutting L size → Begun columns L size
+no-rows : (columns : List ℕ) (radar : Bool) (L : List Observation) (size : ℕ) → Cutting L size → Begun columns radar L size
 unfolding isAnywhere rowsBytes
-no-rows columns L size c = record {
+no-rows columns radar L size c = record {
   rows = [];
   rest = L;
   is = refl;
+  kind = tt;
   under = λ e a. absurd (true≢false (sym a));
   cuts = c .cuts;
   valid = c .valid;
@@ -298,37 +316,38 @@ nothing-left : (L : List Observation) → L ≡ [] → Cutting L 0
 unfolding written
 nothing-left L q = rw q (record { cuts = []; valid = tt; within = omega arith })
 
-low-end : (need : Need) (columns : List ℕ) (n : ℕ) (L : List Observation) → atEnd need n ≡ accepted L → Low need columns L 0
-low-end Need.Version columns n L h = nothing-left L cc
-low-end Need.Columns columns n L h = absurd (refused≢accepted h)
-low-end Need.Row columns n L h = absurd (refused≢accepted h)
-low-end Need.Nothing columns n L h = no-rows columns L 0 (nothing-left L cc)
+low-end : (need : Need) (columns : List ℕ) (radar : Bool) (n : ℕ) (L : List Observation) → atEnd need n ≡ accepted L → Low need columns radar L 0
+low-end Need.Version columns radar n L h = nothing-left L cc
+low-end Need.Columns columns radar n L h = absurd (refused≢accepted h)
+low-end Need.Row columns radar n L h = absurd (refused≢accepted h)
+low-end Need.Nothing columns radar n L h = no-rows columns radar L 0 (nothing-left L cc)
 
 -- A version line before a block.
-low-opens : (l : List ℕ) (t : State) (L : List Observation) (size : ℕ) → AllRight L → Opens l t → Low (t .need) (t .columns) L size
+low-opens : (l : List ℕ) (t : State) (L : List Observation) (size : ℕ) → AllRight L → Opens l t → Low (t .need) (t .columns) (t .radar) L size
     → Cutting L (suc (length l) + size)
 low-opens l t L size r o low =
-    let b : Low Need.Columns [] L size = rw (o .1) at low in
-    wider L (15 + weigh columnBytes (b .0) + b .1) (suc (length l) + size) (opened-cutting (b .0) L (b .1) r (b .2) (b .3)) (omega (arith, o .0, b .4))
+    let b : Low Need.Columns [] false L size = rw (o .1) at low in
+    wider L (15 + weigh columnBytes (b .0) + b .2) (suc (length l) + size) (opened-cutting (b .0) (b .1) L (b .2) r (b .3) (b .4)) (omega (arith, o .0, b .5))
 
 -- Any line before the others that comes to no observation.
-low-next : (need : Need) (columns l : List ℕ) (t : State) (L : List Observation) (size : ℕ) → AllRight L → Next need l t
-    → Low (t .need) (t .columns) L size → Low need columns L (suc (length l) + size)
-low-next Need.Version columns l t L size r x low = low-opens l t L size r x low
-low-next Need.Columns columns l t L size r x low =
-    let b : Low Need.Row (t .columns) L size = rw (x .0) at low in (t .columns, size, b .0, b .1, omega (arith, x .1))
-low-next Need.Row columns l t L size r x low = absurd x
-low-next Need.Nothing columns l t L size r x low = no-rows columns L (suc (length l) + size) (low-opens l t L size r x low)
+low-next : (need : Need) (columns : List ℕ) (radar : Bool) (l : List ℕ) (t : State) (L : List Observation) (size : ℕ) → AllRight L → Next need l t
+    → Low (t .need) (t .columns) (t .radar) L size → Low need columns radar L (suc (length l) + size)
+low-next Need.Version columns radar l t L size r x low = low-opens l t L size r x low
+low-next Need.Columns columns radar l t L size r x low =
+    let b : Low Need.Row (t .columns) (t .radar) L size = rw (x .0) at low in (t .columns, b .0, size, b .1, b .2, omega (arith, x .1))
+low-next Need.Row columns radar l t L size r x low = absurd x
+low-next Need.Nothing columns radar l t L size r x low = no-rows columns radar L (suc (length l) + size) (low-opens l t L size r x low)
 
 -- A data line before the others of its block.
-low-row : (columns : List ℕ) (k : ℕ) (l : List ℕ) (o : Observation) (L M : List Observation) (size : ℕ) → Taken columns k l o → L ≡ o ∷ M
-    → Begun columns M size → (b : Begun columns L (suc (length l) + size)) × (0 < length (b .rows))
+low-row : (columns : List ℕ) (radar : Bool) (k : ℕ) (l : List ℕ) (o : Observation) (L M : List Observation) (size : ℕ) → isRadar o ≡ radar
+    → Taken columns k l o → L ≡ o ∷ M → Begun columns radar M size → (b : Begun columns radar L (suc (length l) + size)) × (0 < length (b .rows))
 unfolding isAnywhere rowsBytes
-low-row columns k l o L M size t q b = (
+low-row columns radar k l o L M size kind-is t q b = (
   record {
     rows = o ∷ b .rows;
     rest = b .rest;
     is = q ∙ ap (λ (x : List Observation). o ∷ x) (b .is);
+    kind = (kind-is, b .kind);
     under = λ e a. bools (isPresent (getD o e [])) (λ p. taken-under columns k l o t e p) (λ p. b .under e (rw p at a));
     cuts = b .cuts;
     valid = b .valid;
@@ -338,29 +357,32 @@ low-row columns k l o L M size t q b = (
 )
 
 -- The same by what the block needs.
-low-rows : (need : Need) (columns : List ℕ) (k : ℕ) (l : List ℕ) (o : Observation) (L M : List Observation) (size : ℕ) → HasColumns need
-    → Taken columns k l o → L ≡ o ∷ M → Begun columns M size → Low need columns L (suc (length l) + size)
-low-rows Need.Version columns k l o L M size c t q b = absurd c
-low-rows Need.Columns columns k l o L M size c t q b = absurd c
-low-rows Need.Row columns k l o L M size c t q b = low-row columns k l o L M size t q b
-low-rows Need.Nothing columns k l o L M size c t q b = low-row columns k l o L M size t q b .0
+low-rows : (need : Need) (columns : List ℕ) (radar : Bool) (k : ℕ) (l : List ℕ) (o : Observation) (L M : List Observation) (size : ℕ)
+    → MayStand need radar o → Taken columns k l o → L ≡ o ∷ M → Begun columns (isRadar o) M size → Low need columns radar L (suc (length l) + size)
+low-rows Need.Version columns radar k l o L M size c t q b = absurd c
+low-rows Need.Columns columns radar k l o L M size c t q b = absurd c
+low-rows Need.Row columns radar k l o L M size c t q b = let r = low-row columns (isRadar o) k l o L M size refl t q b in (isRadar o, r .0, r .1)
+low-rows Need.Nothing columns radar k l o L M size c t q b = low-row columns radar k l o L M size c t q (rw c at b) .0
 
 -- What is left of an accepted text, line by line.
-low : (ls : Lines) (s : State) (n k : ℕ) (L : List Observation) → readFrom s n k ls ≡ accepted L → Low (s .need) (s .columns) L (sizeLines ls)
+low : (ls : Lines) (s : State) (n k : ℕ) (L : List Observation) → readFrom s n k ls ≡ accepted L
+    → Low (s .need) (s .columns) (s .radar) L (sizeLines ls)
 unfolding readFrom sizeLines
-low end s n k L h = low-end (s .need) (s .columns) n L h
+low end s n k L h = low-end (s .need) (s .columns) (s .radar) n L h
 low (cut l) s n k L h = absurd (refused≢accepted h)
 low (line l ls) s n k L h = by-step (step s k l) refl (λ t j M e. low ls t (suc n) j M e) h
   where
     by-step : (x : Step) → step s k l ≡ x
-        → ((t : State) (j : ℕ) (M : List Observation) → readFrom t (suc n) j ls ≡ accepted M → Low (t .need) (t .columns) M (sizeLines ls))
-        → after x n s k (λ t j. readFrom t (suc n) j ls) ≡ accepted L → Low (s .need) (s .columns) L (suc (length l) + sizeLines ls)
+        → ((t : State) (j : ℕ) (M : List Observation) → readFrom t (suc n) j ls ≡ accepted M
+        → Low (t .need) (t .columns) (t .radar) M (sizeLines ls))
+        → after x n s k (λ t j. readFrom t (suc n) j ls) ≡ accepted L
+        → Low (s .need) (s .columns) (s .radar) L (suc (length l) + sizeLines ls)
     by-step (next t) e ih h =
-        low-next (s .need) (s .columns) l t L (sizeLines ls) (lines-right ls t (suc n) k L h .0) (step-next s k l t e) (ih t k L h)
+        low-next (s .need) (s .columns) (s .radar) l t L (sizeLines ls) (lines-right ls t (suc n) k L h .0) (step-next s k l t e) (ih t k L h)
     by-step (row o) e ih h =
-        let r = more-accepted o (readFrom (afterRow s) (suc n) (suc k) ls) L h in
-        low-rows (s .need) (s .columns) k l o L (r .0) (sizeLines ls) (step-row s k l o e) (step-taken s k l o e .1) (r .2)
-        (ih (afterRow s) (suc k) (r .0) (r .1))
+        let r = more-accepted o (readFrom (afterRow o s) (suc n) (suc k) ls) L h in
+        low-rows (s .need) (s .columns) (s .radar) k l o L (r .0) (sizeLines ls) (step-row s k l o e) (step-taken s k l o e .1) (r .2)
+        (ih (afterRow o s) (suc k) (r .0) (r .1))
     by-step (bad kind p) e ih h = absurd (refused≢accepted h)
 
 -- Whatever text reads as the observations, some cuts write them in no more bytes.

@@ -4,35 +4,43 @@ use Prim.Native.Nat.{ℕ, _≤_}
 use mathlib.Core.Path.{_≡_, refl, ap, sym, _∙_}
 use mathlib.Core.List.{List, [], _∷_, map}
 use native.Mathlib.Omega.{arith}
-use lib.ListN.{length, length-map}
+use lib.ListN.{length}
 use Rattle.element.specs.Observation.{Observation, setOf}
 use Rattle.report.specs.Report.{accepted, read}
-use Rattle.cuts.specs.Cuts.{Cuts, Wanted}
-use Rattle.cuts.specs.Block.{Row, rowsOf, blockBytes, allMore}
-use Rattle.cuts.proofs.CutLaws.{cuts-to, cuts-from}
-use Rattle.layout.specs.Written.{mayFollow, written, Valid}
+use Rattle.cuts.specs.Cuts.{sameMark, Cuts, Wanted}
+use Rattle.cuts.specs.Plan.{Marked, markedRows, markedBytes}
+use Rattle.cuts.proofs.CutLaws.{cuts-to, cuts-from, stretch-map}
+use Rattle.layout.specs.Written.{markOf, mayFollow, written, Valid}
 use Rattle.layout.specs.Packed.{PackedIs}
-use Rattle.layout.specs.Cost.{sizeOf, asRow}
+use Rattle.layout.specs.Cost.{sizeOf, asMarked}
 use Rattle.layout.proofs.Accepted.{AllRight, accepted-right}
 use Rattle.layout.proofs.ReadsBack.{reads-back-shorter}
 use Rattle.layout.proofs.BlockBytes.{written-bytes}
 use Rattle.layout.proofs.NoShorter.{Cutting, no-shorter}
 
--- The rows that the search is given: the sets and the sizes of the observations.
-pub rows-are : (L : List Observation) → rowsOf (map setOf L) (map sizeOf L) ≡ map asRow L
+-- The rows that the search is given: the marks, the sets and the sizes of the observations.
+pub rows-are : (L : List Observation) → markedRows (map markOf L) (map setOf L) (map sizeOf L) ≡ map asMarked L
 rows-are [] = refl
-rows-are (o ∷ os) = ap (λ (rows : List Row). asRow o ∷ rows) (rows-are os)
+rows-are (o ∷ os) = ap (λ (rows : List Marked). asMarked o ∷ rows) (rows-are os)
+
+-- The rows that the search puts into one block.
+abbrev pub together : Marked → List Marked → ℕ
+together = sameMark (λ marked. marked .mark)
+
+-- They are those that may follow a row.
+may-follow : (o : Observation) (os : List Observation) → together (asMarked o) (map asMarked os) ≡ mayFollow o os
+may-follow o os = stretch-map asMarked (λ marked. marked .mark) (markOf o) os
 
 -- Cuts of the observations are cuts of the rows.
-pub valid-rows : (cuts : List ℕ) (L : List Observation) → Valid cuts L → Cuts allMore cuts (map asRow L)
-valid-rows cuts L v = cuts-to asRow allMore mayFollow (λ x xs. length-map xs asRow) cuts L v
+pub valid-rows : (cuts : List ℕ) (L : List Observation) → Valid cuts L → Cuts together cuts (map asMarked L)
+valid-rows cuts L v = cuts-to asMarked together mayFollow may-follow cuts L v
 
 -- And the other way round.
-pub rows-valid : (cuts : List ℕ) (L : List Observation) → Cuts allMore cuts (map asRow L) → Valid cuts L
-rows-valid cuts L v = cuts-from asRow allMore mayFollow (λ x xs. length-map xs asRow) cuts L v
+pub rows-valid : (cuts : List ℕ) (L : List Observation) → Cuts together cuts (map asMarked L) → Valid cuts L
+rows-valid cuts L v = cuts-from asMarked together mayFollow may-follow cuts L v
 
 -- The wanted cuts write the packed report.
-pub packed : (t : List ℕ) (L : List Observation) (cuts : List ℕ) → read t ≡ accepted L → Wanted blockBytes allMore (map asRow L) cuts
+pub packed : (t : List ℕ) (L : List Observation) (cuts : List ℕ) → read t ≡ accepted L → Wanted markedBytes together (map asMarked L) cuts
     → PackedIs L (written cuts L)
 packed t L cuts h w =
     let r : AllRight L = accepted-right t L h in

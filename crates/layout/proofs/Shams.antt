@@ -1,18 +1,22 @@
--- The sham packers of document 01, as functions from the report to what they write, each with an accepted report where what it writes is
+-- The sham packers of document 01, and one that document 02's order 3 brings, as functions from the report to what they write, each with an accepted report where what it writes is
 -- not the packed report.
 use Prim.Native.Nat.{ℕ, _≤_}
-use mathlib.Core.Path.{_≡_, refl, sym, _∙_}
+use mathlib.Core.Path.{_≡_, refl, sym, ap, _∙_}
 use mathlib.Core.Bool.{Bool, true, false, cond}
 use mathlib.Core.List.{List, [], _∷_, _++_}
 use native.Mathlib.Omega.{arith}
+use lib.ListN.{getD, replicate}
 use Rattle.text.specs.Bytes.{bytes}
 use Rattle.text.specs.Lines.{lineFeed, Lines, end, cut, line, lines}
 use Rattle.element.specs.Observation.{Observation}
 use Rattle.report.specs.Report.{isHash, Outcome, accepted, refused, read}
 use Rattle.layout.specs.Written.{blockText}
 use Rattle.layout.specs.Packed.{PackedIs}
-use Rattle.report.specs.Specimen.{specimen, likeSpecimen, specimenObservation}
+use Rattle.element.specs.Table.{elements}
+use Rattle.refusal.specs.declared.Kind.the-variants.{KindsMixed}
+use Rattle.report.specs.Specimen.{specimen, holding, likeSpecimen, specimenObservation}
 use Rattle.report.proofs.Computed.{reading}
+use Rattle.report.proofs.Join.{refused≢accepted}
 use Rattle.layout.proofs.Computed.{writing}
 use Rattle.layout.proofs.ReadsBack.{empty-reads}
 use Rattle.layout.proofs.SpecimenPacks.{specimen-reads}
@@ -158,13 +162,17 @@ under-reads : read (copiedUnder turned) ≡ accepted misreadRows
 unfolding copiedUnder reading writing firstWell firstBlock restOfBlock laterBlocks fromNext dataAlone
 under-reads = refl
 
+-- The first byte of the second row's ra.
+abbrev byteOfRa : Outcome → ℕ
+byteOfRa outcome = getD (getD (getD (observationsIn outcome) 1 []) 16 []) 0 0
+
 -- What it writes reads as other observations.
 pub copied-under : Caught copiedUnder
 copied-under = record {
   report = turned;
   observations = turnedRows;
   reads = turned-reads;
-  fails = λ p. let q : accepted misreadRows ≡ accepted turnedRows = sym under-reads ∙ p .reads in let z : _≡_ {A = ℕ} 50 49 = cc in omega arith;
+  fails = λ p. let z : _≡_ {A = ℕ} 50 49 = ap byteOfRa (sym under-reads ∙ p .reads) in omega arith;
 }
 
 -- Lays out the first block well and copies the remaining rows in blocks as they came.
@@ -198,4 +206,43 @@ copied-blocks = record {
   observations = specimenObservation ∷ anotherObservation ∷ [];
   reads = parted-reads;
   fails = λ p. let b : 208 ≤ 155 = rw blocks-are at (p .least joined joined-reads) in omega arith;
+}
+
+-- Joins kinds: puts every row into one block.
+pub kindsJoined : List ℕ → List ℕ
+kindsJoined report = blockText (observationsIn (read report))
+
+-- The specimen, and a block of one radar observation.
+abbrev bothKinds : List ℕ
+bothKinds =
+    specimen
+    ++ bytes "# version=2022\npermID|obsTime|trx|rcv|doppler|rmsDoppler|frq|com\n433|2024-03-01T04:05:06.5Z|253|251|-12.5|.1|2380|1\n"
+
+-- Its radar observation.
+abbrev radarObservation : Observation
+radarObservation =
+    holding 1 (bytes "433")
+    (holding 15 (bytes "2024-03-01T04:05:06.5Z")
+    (holding 30 (bytes "253")
+    (holding 31 (bytes "251")
+    (holding 34 (bytes "-12.5")
+    (holding 35 (bytes ".1")
+    (holding 36 (bytes "2380")
+    (holding 37 (bytes "1") (replicate elements []))))))))
+
+kinds-read : read bothKinds ≡ accepted (specimenObservation ∷ radarObservation ∷ [])
+unfolding reading
+kinds-read = refl
+
+joined-refused : read (kindsJoined bothKinds) ≡ refused (record { kind = KindsMixed; line = 4; place = 0 })
+unfolding kindsJoined reading writing
+joined-refused = refl
+
+-- What it writes is no report: 21.
+pub kinds-joined : Caught kindsJoined
+kinds-joined = record {
+  report = bothKinds;
+  observations = specimenObservation ∷ radarObservation ∷ [];
+  reads = kinds-read;
+  fails = λ p. refused≢accepted (sym joined-refused ∙ p .reads);
 }

@@ -6,18 +6,19 @@ use mathlib.Core.Logic.{inr}
 use native.Mathlib.Omega.{arith}
 use Rattle.element.specs.Observation.{Observation}
 use Rattle.report.specs.Report.{accepted, read}
-use Rattle.cuts.specs.Cuts.{cost, Cuts, Wanted}
-use Rattle.cuts.specs.Block.{Row, blockBytes, allMore}
+use Rattle.cuts.specs.Cuts.{cost, stretch, Cuts, Wanted}
+use Rattle.cuts.specs.Plan.{Marked, markedBytes}
 use Rattle.layout.specs.Written.{written}
 use Rattle.layout.specs.Packed.{PackedIs}
-use Rattle.layout.specs.Cost.{asRow}
+use Rattle.layout.specs.Cost.{asMarked}
 use Rattle.report.specs.Specimen.{specimen, specimenObservation}
 use Rattle.report.proofs.Computed.{reading}
 use Rattle.layout.proofs.Computed.{writing}
-use Rattle.layout.proofs.Packed.{packed}
+use Rattle.layout.proofs.Packed.{together, packed}
 
 -- One row is cut in one way.
-one-cut : (cuts : List ℕ) (x : Row) → Cuts allMore cuts (x ∷ []) → cuts ≡ 1 ∷ []
+one-cut : (cuts : List ℕ) (x : Marked) → Cuts together cuts (x ∷ []) → cuts ≡ 1 ∷ []
+unfolding stretch
 one-cut [] x v = absurd v
 one-cut (zero ∷ ks) x v = absurd v
 one-cut (suc zero ∷ []) x v = refl
@@ -25,16 +26,16 @@ one-cut (suc zero ∷ k ∷ ks) x v = absurd (v .1)
 one-cut (suc (suc k) ∷ ks) x v = absurd (omega (arith, v .0))
 
 -- So that way is the wanted one.
-one-wanted : (x : Row) → Wanted blockBytes allMore (x ∷ []) (1 ∷ [])
+one-wanted : (x : Marked) → Wanted markedBytes together (x ∷ []) (1 ∷ [])
 one-wanted x = record {
   cuts = (omega arith, tt);
-  least = λ cuts v. omega (arith, ap (λ (ks : List ℕ). cost blockBytes ks (x ∷ [])) (one-cut cuts x v));
+  least = λ cuts v. omega (arith, ap (λ (ks : List ℕ). cost markedBytes ks (x ∷ [])) (one-cut cuts x v));
   last = λ cuts v e. rw (one-cut cuts x v) (inr (refl, tt));
 }
 
 -- One observation packs to one block.
 pub one-packs : (t : List ℕ) (o : Observation) → read t ≡ accepted (o ∷ []) → PackedIs (o ∷ []) (written (1 ∷ []) (o ∷ []))
-one-packs t o h = packed t (o ∷ []) (1 ∷ []) h (one-wanted (asRow o))
+one-packs t o h = packed t (o ∷ []) (1 ∷ []) h (one-wanted (asMarked o))
 
 -- The specimen is accepted, with one observation.
 pub specimen-reads : read specimen ≡ accepted (specimenObservation ∷ [])

@@ -2,12 +2,12 @@
 use Prim.Native.Nat.{ℕ}
 use mathlib.Core.Bool.{Bool, false, cond, _||_}
 use mathlib.Core.List.{List, [], _∷_, _++_, map}
-use lib.ListN.{length, getD, take, drop}
+use lib.ListN.{getD, take, drop}
 use Rattle.text.specs.Lines.{lineFeed, bar}
 use Rattle.element.specs.Table.{nameOf, columnOrder}
-use Rattle.element.specs.Observation.{Observation, isPresent}
+use Rattle.element.specs.Observation.{Observation, isPresent, isRadar, bit}
 use Rattle.report.specs.Report.{versionLine}
-use Rattle.cuts.specs.Cuts.{Cuts}
+use Rattle.cuts.specs.Cuts.{sameMark, Cuts}
 
 -- The element of an index is present in some row.
 unfoldable pub isAnywhere : List Observation → ℕ → Bool
@@ -55,10 +55,14 @@ unfoldable pub written : List ℕ → List Observation → List ℕ
 written [] rows = []
 written (count ∷ counts) rows = blockText (take count rows) ++ written counts (drop count rows)
 
--- How many of the rows after a row may stand in its block: all of them.
-abbrev pub mayFollow : Observation → List Observation → ℕ
-mayFollow row rows = length rows
+-- The mark of an observation, which those of one block have in common: its kind.
+abbrev pub markOf : Observation → ℕ
+markOf observation = bit (isRadar observation)
 
--- Cuts of the rows: each block has a row at least, and together they have every row.
+-- How many of the rows after a row may stand in its block: those of its mark, up to the first of another one. A block holds one kind.
+abbrev pub mayFollow : Observation → List Observation → ℕ
+mayFollow row rows = sameMark markOf row rows
+
+-- Cuts of the rows: each block has a row at least and holds one kind, and together they have every row.
 abbrev pub Valid : List ℕ → List Observation → Type 0
 Valid cuts rows = Cuts mayFollow cuts rows

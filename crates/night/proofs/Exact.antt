@@ -52,7 +52,7 @@ unfolding recordOf fieldsIn
 writable-record n bytes w =
     let d = is-done-of (read (w .report)) n (w .list) (w .is-done) in
     let o : Observation = getD (d .observations) (n - 1) [] in
-    rw (sym (d .stands) ∙ w .leaves) at (within-record (fieldsIn n o) (accepted-within (w .report) (d .observations) n (d .reads) (d .first) (d .last)))
+    rw (sym (d .stands) ∙ w .leaves) at (within-record (fieldsIn n o) (accepted-within (w .report) (d .observations) n (d .reads) (d .first) (d .last) (d .optical)))
 
 -- A record is right exactly when an accepted observation at that place could have written it.
 pub record-exact : (n : ℕ) (bytes : List ℕ) → (isRecord n bytes ≡ true → Writable n bytes) × (Writable n bytes → isRecord n bytes ≡ true)

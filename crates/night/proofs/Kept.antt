@@ -1,7 +1,7 @@
 -- Writing a record changes the list nowhere but in the record's 40 bytes, and not at all where it is refused.
 use Prim.Native.Nat.{ℕ, _+_, _-_, _*_, _≤_, _<_}
 use mathlib.Core.Path.{_≡_, refl, ap, sym, _∙_}
-use mathlib.Core.Bool.{Bool, true, false, cond, _&&_}
+use mathlib.Core.Bool.{Bool, true, false, not, cond, _&&_}
 use mathlib.Core.List.{List, []}
 use native.Mathlib.Omega.{arith}
 use lib.Dec.{leb}
@@ -11,8 +11,9 @@ use borrow.Author.Tests.{leb-true}
 use Rattle.text.specs.Output.{over}
 use Rattle.text.proofs.Bools.{both}
 use Rattle.refusal.specs.Paper.{Paper, refusedBy, given, paper}
-use Rattle.refusal.specs.declared.Kind.the-variants.{NoObservation, ListTooShort}
-use Rattle.report.specs.Report.{Outcome, accepted, refused}
+use Rattle.refusal.specs.declared.Kind.the-variants.{NoObservation, NotOptical, ListTooShort}
+use Rattle.element.specs.Observation.{Observation, isRadar}
+use Rattle.report.specs.Report.{Outcome, accepted, refused, read}
 use Rattle.report.specs.Answers.{isObservation, request}
 use Rattle.night.specs.Record.{recordOf}
 use Rattle.night.specs.List.{recordSize, placeOf, recordAt, done, hasPlace, listWith, writtenAnswer, listAfter}
@@ -79,25 +80,39 @@ same-kept n list = record { sized = refl; before = λ k h. refl; behind = λ k h
 -- Whatever a writing answers, every byte outside the record stays.
 pub others-stay : (outcome : Outcome) (n : ℕ) (list : List ℕ) → Kept n list (listAfter outcome n list)
 others-stay (refused x) n list = same-kept n list
-others-stay (accepted os) n list = by-test (isObservation os n && hasPlace n list) refl
+others-stay (accepted os) n list = by-test (isObservation os n && (not (isRadar (getD os (n - 1) [])) && hasPlace n list)) refl
   where
-    by-test : (t : Bool) → isObservation os n && hasPlace n list ≡ t → Kept n list (cond t (listWith n (recordOf n (getD os (n - 1) [])) list) list)
+    by-test : (t : Bool) → isObservation os n && (not (isRadar (getD os (n - 1) [])) && hasPlace n list) ≡ t
+        → Kept n list (cond t (listWith n (recordOf n (getD os (n - 1) [])) list) list)
     by-test false e = same-kept n list
     by-test true e =
-        let p = both (isObservation os n) (hasPlace n list) e in
+        let p = both (isObservation os n) (not (isRadar (getD os (n - 1) [])) && hasPlace n list) e in
         let q = both (leb 1 n) (leb n (length os)) (p .0) in
+        let r = both (not (isRadar (getD os (n - 1) []))) (hasPlace n list) (p .1) in
         with-kept n (recordOf n (getD os (n - 1) [])) list (leb-true 1 n (q .0)) (record-of-length n (getD os (n - 1) []))
-        (leb-true (n * recordSize) (length list) (p .1))
+        (leb-true (n * recordSize) (length list) (r .1))
 
 -- A writing that is refused leaves the list as it was.
 pub refused-stays : (outcome : Outcome) (n : ℕ) (list : List ℕ) (answer : Paper) → writtenAnswer outcome n list ≡ refusedBy answer
     → listAfter outcome n list ≡ list
 refused-stays (refused x) n list answer e = refl
 refused-stays (accepted os) n list answer e =
-    by-tests (isObservation os n) (hasPlace n list) (paper (request NoObservation)) (paper (request ListTooShort)) e
+    by-tests (isObservation os n) (isRadar (getD os (n - 1) [])) (hasPlace n list) (paper (request NoObservation)) (paper (request NotOptical))
+    (paper (request ListTooShort)) e
   where
-    by-tests : (a b : Bool) (p q : Paper) → cond a (cond b (given done) (refusedBy q)) (refusedBy p) ≡ refusedBy answer
-        → cond (a && b) (listWith n (recordOf n (getD os (n - 1) [])) list) list ≡ list
-    by-tests true true p q e = let z : _≡_ {A = ℕ} 0 1 = cc in absurd (omega arith)
-    by-tests true false p q e = refl
-    by-tests false b p q e = refl
+    by-tests : (a b c : Bool) (p q r : Paper)
+        → cond a (cond b (refusedBy q) (cond c (given done) (refusedBy r))) (refusedBy p) ≡ refusedBy answer
+        → cond (a && (not b && c)) (listWith n (recordOf n (getD os (n - 1) [])) list) list ≡ list
+    by-tests true true c p q r e = refl
+    by-tests true false true p q r e = let z : _≡_ {A = ℕ} 0 1 = cc in absurd (omega arith)
+    by-tests true false false p q r e = refl
+    by-tests false b c p q r e = refl
+
+-- Of a radar observation nothing is written, whatever the list's length: that is 23, and the list stays.
+module _ (report : List ℕ) (os : List Observation) (n : ℕ) (list : List ℕ) (reads : read report ≡ accepted os) (is-one : isObservation os n ≡ true)
+    (is-radar : isRadar (getD os (n - 1) []) ≡ true) where
+  pub radar-refused : writtenAnswer (read report) n list ≡ refusedBy (paper (request NotOptical))
+  radar-refused = rw (reads, is-one, is-radar)
+
+  pub radar-stays : listAfter (read report) n list ≡ list
+  radar-stays = refused-stays (read report) n list (paper (request NotOptical)) radar-refused

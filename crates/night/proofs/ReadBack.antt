@@ -39,7 +39,7 @@ module _ (report list : List ℕ) (os : List Observation) (n : ℕ) (reads : rea
       let d = written in
       let same-rows : d .observations ≡ os = cc in
       ap fieldsOf (d .stands)
-      ∙ fields-back (fieldsIn n (getD (d .observations) (n - 1) [])) (accepted-within report (d .observations) n (d .reads) (d .first) (d .last))
+      ∙ fields-back (fieldsIn n (getD (d .observations) (n - 1) [])) (accepted-within report (d .observations) n (d .reads) (d .first) (d .last) (d .optical))
       ∙ ap (λ (rows : List Observation). fieldsIn n (getD rows (n - 1) [])) same-rows
 
   -- They are what the reader gives of a list without a bad record.

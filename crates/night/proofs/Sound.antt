@@ -1,4 +1,4 @@
--- The fields of an accepted observation are within their ranges.
+-- The fields of an accepted optical observation are within their ranges.
 use Prim.Native.Nat.{ℕ, zero, suc, _+_, _-_, _*_, _^_, _≤_, _<_}
 use mathlib.Core.Path.{_≡_, refl, ap, sym, _∙_}
 use mathlib.Core.Bool.{Bool, true, false, cond, _&&_}
@@ -33,8 +33,9 @@ use Rattle.value.specs.declared.Value.{Value}
 use Rattle.value.specs.declared.Value.the-variants as Value
 use Rattle.value.proofs.Numerals.{number-append}
 use Rattle.element.specs.Form.{valueOf, checkOf, faultOf}
-use Rattle.element.specs.Observation.{Observation, isPresent, valueAt, isHeld, holdsAny, firstMissing, identification, needed, missingAt, groupFault, faultIn, isWgs84, isEarth, observationFault}
+use Rattle.element.specs.Observation.{Observation, isPresent, valueAt, isHeld, holdsAny, firstMissing, identification, needed, missingAt, groupFault, opticalFault, isRadar, isWgs84, isEarth, observationFault}
 use Rattle.element.specs.declared.form.Check.the-variants.{Fine, Bad}
+use Rattle.element.proofs.Observations.{optical-sound}
 use Rattle.report.specs.Report.{rowLimit, accepted, read}
 use Rattle.layout.proofs.Accepted.{RightValue, Right, AllRight, accepted-right, accepted-rows}
 use Rattle.night.specs.Record.{fieldsIn, isDay}
@@ -159,7 +160,7 @@ declination-sound v r p =
     let t = passed (isDegrees 2 (bare true v)) (leb u 90000000000) (Value.Angle z) OutOfRange WrongForm (present-fine 17 v (r .fine) p) in
     record { units = z; is = rw (t .0, t .1); within = signed-within (isMinus v) u (leb-true u 90000000000 (t .1)) }
 
--- A sound observation holds what it needs.
+-- A sound optical observation holds what it needs.
 abbrev Held : List ℕ → (ℕ → Bool) → Type 0
 Held [] holds = Unit
 Held (n ∷ ns) holds = (holds n ≡ true) × Held ns holds
@@ -184,17 +185,18 @@ sound-none true n rest e =
     (λ q. let b : At ElementMissing n ≡ Sound = rw q at e in let z : _≡_ {A = ℕ} 0 1 = cc in absurd (omega arith))
 sound-none false n rest e = let z : _≡_ {A = ℕ} 0 1 = cc in absurd (omega arith)
 
-needed-held : (o : Observation) → observationFault o ≡ Sound → Held needed (isHeld o)
-unfolding observationFault faultIn
-needed-held o e =
+needed-held : (o : Observation) → isRadar o ≡ false → observationFault o ≡ Sound → Held needed (isHeld o)
+unfolding opticalFault
+needed-held o optical e =
     all-held needed (isHeld o) refl
-    (sound-none (holdsAny identification (isHeld o)) (firstMissing needed (isHeld o)) (groupFault (isHeld o) (isWgs84 o) (isEarth o)) e)
+    (sound-none (holdsAny identification (isHeld o)) (firstMissing needed (isHeld o)) (groupFault (isHeld o) (isWgs84 o) (isEarth o))
+    (optical-sound o optical e))
 
--- The fields of an observation as it is accepted.
-fields-within : (n : ℕ) (o : Observation) → 1 ≤ n → n ≤ rowLimit → Right o → Within (fieldsIn n o)
+-- The fields of an optical observation as it is accepted.
+fields-within : (n : ℕ) (o : Observation) → 1 ≤ n → n ≤ rowLimit → isRadar o ≡ false → Right o → Within (fieldsIn n o)
 unfolding fieldsIn
-fields-within n o a b r =
-    let h = needed-held o (r .sound) in
+fields-within n o a b optical r =
+    let h = needed-held o optical (r .sound) in
     let m = moment-sound (valueAt 15 o) (r .values 14) (h .1 .1 .0) in
     let x = ascension-sound (valueAt 17 o) (r .values 16) (h .1 .1 .1 .0) in
     let y = declination-sound (valueAt 18 o) (r .values 17) (h .1 .1 .1 .1 .0) in
@@ -214,9 +216,9 @@ right-of [] i r h = absurd (omega arith)
 right-of (o ∷ os) zero r h = r .0
 right-of (o ∷ os) (suc i) r h = right-of os i (r .1) (omega arith)
 
--- So the fields of every observation of an accepted report are within their ranges.
+-- So the fields of every optical observation of an accepted report are within their ranges.
 pub accepted-within : (report : List ℕ) (os : List Observation) (n : ℕ) → read report ≡ accepted os → 1 ≤ n → n ≤ length os
-    → Within (fieldsIn n (getD os (n - 1) []))
-accepted-within report os n e first last =
+    → isRadar (getD os (n - 1) []) ≡ false → Within (fieldsIn n (getD os (n - 1) []))
+accepted-within report os n e first last optical =
     let few = accepted-rows report os e in
-    fields-within n (getD os (n - 1) []) first (omega arith) (right-of os (n - 1) (accepted-right report os e) (omega arith))
+    fields-within n (getD os (n - 1) []) first (omega arith) optical (right-of os (n - 1) (accepted-right report os e) (omega arith))

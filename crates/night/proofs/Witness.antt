@@ -24,7 +24,7 @@ use Rattle.value.specs.Word.{mode}
 use Rattle.value.specs.declared.Value.{Value}
 use Rattle.value.specs.declared.Value.the-variants as Value
 use Rattle.element.specs.Form.{valueOf, checkOf, faultOf}
-use Rattle.element.specs.Observation.{Observation, isPresent, holdsAny, firstMissing, groupMissing, groupFault, faultIn, isWgs84, isEarth, observationFault}
+use Rattle.element.specs.Observation.{Observation, isPresent, holdsAny, firstMissing, groupMissing, groupFault, opticalFault, faultIn, isRadar, isWgs84, isEarth, observationFault}
 use Rattle.element.specs.Table.{columnOrder}
 use Rattle.element.specs.declared.form.Check.the-variants.{Fine}
 use Rattle.element.proofs.Forms.{fault-absent, fault-present}
@@ -35,7 +35,7 @@ use Rattle.layout.proofs.ColumnLaws.{weigh}
 use Rattle.layout.proofs.FieldLaws.{isClean}
 use Rattle.layout.proofs.Accepted.{RightValue, Right, AllRight}
 use Rattle.layout.proofs.BlockBytes.{rowsBytes, block-length}
-use Rattle.layout.proofs.BlockReads.{block-reads}
+use Rattle.layout.proofs.BlockReads.{AllOfKind, block-reads}
 use Rattle.night.specs.Record.{Fields, fieldsIn, recordBytes, recordOf}
 use Rattle.night.specs.List.{Writable}
 use Rattle.night.proofs.Spell.{timeText, degreesText, signedText}
@@ -53,7 +53,7 @@ use Rattle.night.proofs.Within.{Within}
 abbrev rowOf : List ℕ → List ℕ → List ℕ → List ℕ → Observation
 rowOf stn time ra dec =
     [] ∷ [] ∷ [] ∷ bytes "a" ∷ [] ∷ [] ∷ bytes "CCD" ∷ stn ∷ [] ∷ [] ∷ [] ∷ [] ∷ [] ∷ [] ∷ time ∷ []
-    ∷ ra ∷ dec ∷ [] ∷ [] ∷ [] ∷ bytes "a" ∷ [] ∷ [] ∷ [] ∷ [] ∷ [] ∷ [] ∷ [] ∷ []
+    ∷ ra ∷ dec ∷ [] ∷ [] ∷ [] ∷ bytes "a" ∷ replicate 15 []
 
 -- The values from an index on are right.
 data RightFrom : ℕ → Observation → Type 0 where
@@ -91,8 +91,13 @@ camera = record { fine = refl; trimmed = refl; clean = refl }
 
 module _ (stn time ra dec : List ℕ) where
   row-sound : isPresent stn ≡ true → isPresent time ≡ true → isPresent ra ≡ true → isPresent dec ≡ true → observationFault (rowOf stn time ra dec) ≡ Sound
-  unfolding observationFault faultIn holdsAny firstMissing groupFault groupMissing isWgs84 isEarth same
+  unfolding observationFault faultIn opticalFault holdsAny firstMissing groupFault groupMissing isWgs84 isEarth same
   row-sound a b c d = rw (a, b, c, d)
+
+  -- None of 30 to 37 is in it.
+  row-optical : isRadar (rowOf stn time ra dec) ≡ false
+  unfolding isRadar holdsAny
+  row-optical = refl
 
   row-right : RightValue 7 stn → RightValue 14 time → RightValue 16 ra → RightValue 17 dec
       → isPresent stn ≡ true → isPresent time ≡ true → isPresent ra ≡ true → isPresent dec ≡ true → Right (rowOf stn time ra dec)
@@ -105,7 +110,7 @@ module _ (stn time ra dec : List ℕ) where
       all : RightFrom 0 (rowOf stn time ra dec)
       all =
           absences 3 (value (letter 3 letter-track) (absences 2 (value camera (value s (absences 6 (value t (absences 1 (value r (value e
-          (absences 3 (value (letter 21 letter-catalogue) (absences 7 none))))))))))))
+          (absences 3 (value (letter 21 letter-catalogue) (absences 15 none))))))))))))
 
 -- A short row.
 abbrev filler : Observation
@@ -133,6 +138,9 @@ filler-right =
     row-right (bytes "aaa") (bytes "0001-01-01T00:00:00Z") (bytes "0") (bytes "0") filler-station filler-time filler-ascension filler-declination
     refl refl refl refl
 
+filler-optical : isRadar filler ≡ false
+filler-optical = row-optical (bytes "aaa") (bytes "0001-01-01T00:00:00Z") (bytes "0") (bytes "0")
+
 -- Short rows before a row. They are that short so that a report of as many as the limit allows has room for them.
 abbrev rows : ℕ → Observation → List Observation
 rows k o = replicate k filler ++ (o ∷ [])
@@ -140,6 +148,11 @@ rows k o = replicate k filler ++ (o ∷ [])
 rows-right : (k : ℕ) (o : Observation) → Right o → AllRight (rows k o)
 rows-right zero o r = (r, tt)
 rows-right (suc k) o r = (filler-right, rows-right k o r)
+
+-- They are of one kind.
+rows-optical : (k : ℕ) (o : Observation) → isRadar o ≡ false → AllOfKind false (rows k o)
+rows-optical zero o e = (e, tt)
+rows-optical (suc k) o e = (filler-optical, rows-optical k o e)
 
 rows-length : (k : ℕ) (o : Observation) → length (rows k o) ≡ suc k
 rows-length zero o = refl
@@ -193,12 +206,12 @@ block-short o os k r c b h =
     omega arith
 
 -- They are accepted.
-rows-read : (k : ℕ) (o : Observation) → Right o → presence o ≡ presence filler → sizeOf o ≤ 63 → suc k ≤ rowLimit
+rows-read : (k : ℕ) (o : Observation) → Right o → isRadar o ≡ false → presence o ≡ presence filler → sizeOf o ≤ 63 → suc k ≤ rowLimit
     → read (blockText (rows k o)) ≡ accepted (rows k o)
-rows-read zero o r p b h =
-    block-reads o [] (rows-right 0 o r) (omega arith) (block-short o [] 0 (rows-right 0 o r) (rows-columns 0 o p) (rows-bytes 0 o b) (omega arith))
-rows-read (suc k) o r p b h =
-    block-reads filler (rows k o) (rows-right (suc k) o r) (omega (arith, rows-length k o))
+rows-read zero o r t p b h =
+    block-reads o [] (rows-right 0 o r) tt (omega arith) (block-short o [] 0 (rows-right 0 o r) (rows-columns 0 o p) (rows-bytes 0 o b) (omega arith))
+rows-read (suc k) o r t p b h =
+    block-reads filler (rows k o) (rows-right (suc k) o r) (rw filler-optical (rows-optical k o t)) (omega (arith, rows-length k o))
     (block-short filler (rows k o) (suc k) (rows-right (suc k) o r) (rows-columns (suc k) o p) (rows-bytes (suc k) o b) h)
 
 -- The row of fields.
@@ -287,6 +300,9 @@ module _ (f : Fields) (w : Within f) (date : DayOf (f .day)) where
       (solid-right 17 (Value.Angle (f .dec)) declination-whole declination-is refl)
       station-present time-present ascension-present declination-present
 
+  made-optical : isRadar made ≡ false
+  made-optical = row-optical (f .station) time ascension declination-text
+
   made-presence : presence made ≡ presence filler
   made-presence = rw (station-present, time-present, ascension-present, declination-present)
 
@@ -300,9 +316,10 @@ module _ (f : Fields) (w : Within f) (date : DayOf (f .day)) where
   made-writable =
       let k = f .number - 1 in
       let os = rows k made in
-      let reads = rows-read k made made-right made-presence made-short (omega (arith, w .first, w .last)) in
+      let reads = rows-read k made made-right made-optical made-presence made-short (omega (arith, w .first, w .last)) in
       let many : f .number ≤ length os = omega (arith, rows-length k made) in
-      rw (rows-at k made, made-fields) at (accepted-writable (blockText os) os (f .number) reads (w .first) many)
+      let optical : isRadar (getD os (f .number - 1) []) ≡ false = rw (rows-at k made) made-optical in
+      rw (rows-at k made, made-fields) at (accepted-writable (blockText os) os (f .number) reads (w .first) many optical)
 
 -- Fields within their ranges are those of an accepted observation of their number.
 pub within-writable : (f : Fields) → Within f → Writable (f .number) (recordBytes f)

@@ -7,7 +7,7 @@ use lib.ListN.{length}
 use mir.Syntax.{w32, w64}
 use mir.Val.{toZ}
 use Rattle.refusal.specs.Paper.{paper, Answer, refusedBy, given}
-use Rattle.refusal.specs.declared.Kind.the-variants.{NoObservation, ListTooShort}
+use Rattle.refusal.specs.declared.Kind.the-variants.{NoObservation, NotOptical, ListTooShort}
 use Rattle.element.specs.Form.{valueOf}
 use Rattle.report.specs.Report.{rowLimit}
 use Rattle.report.specs.Answers.{request}
@@ -25,11 +25,13 @@ notedFields report index row number =
     (valueOf 16 (notedValue report index row 16))
     (valueOf 17 (notedValue report index row 17))
 
--- What writing answers, of a report of so many observations to a list of so many bytes.
-abbrev pub placeAnswer : ℕ → ℕ → ℕ → Answer Done
-placeAnswer count number room =
+-- What writing answers, of a report of so many observations to a list of so many bytes, where the observation is radar or not.
+abbrev pub placeAnswer : ℕ → Bool → ℕ → ℕ → Answer Done
+placeAnswer count radar number room =
     cond (leb 1 number && leb number count)
-    (cond (leb (number * recordSize) room) (given done) (refusedBy (paper (request ListTooShort))))
+    (cond radar
+    (refusedBy (paper (request NotOptical)))
+    (cond (leb (number * recordSize) room) (given done) (refusedBy (paper (request ListTooShort)))))
     (refusedBy (paper (request NoObservation)))
 
 -- What a record's bytes hold, as code reads them.

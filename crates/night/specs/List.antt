@@ -1,14 +1,15 @@
 -- A night list: records one after another. What writing a record answers and leaves, what a record means, and what the list's reader answers.
 use Prim.Native.Nat.{ℕ, zero, suc, _+_, _-_, _*_, _/_}
 use mathlib.Core.Path.{_≡_}
-use mathlib.Core.Bool.{Bool, cond, _&&_}
+use mathlib.Core.Bool.{Bool, not, cond, _&&_}
 use mathlib.Core.List.{List, [], _++_}
 use lib.Dec.{eqb, leb}
 use lib.ListN.{length, getD, take, drop}
 use Rattle.text.specs.Output.{spelt, over}
 use Rattle.refusal.specs.Paper.{paper, Answer, refusedBy, given}
-use Rattle.refusal.specs.declared.Kind.the-variants.{NoObservation, ListTooShort, BadRecord}
+use Rattle.refusal.specs.declared.Kind.the-variants.{NoObservation, NotOptical, ListTooShort, BadRecord}
 use Rattle.refusal.specs.declared.Refusal.{Refusal}
+use Rattle.element.specs.Observation.{isRadar}
 use Rattle.report.specs.Report.{Outcome, accepted, refused, read}
 use Rattle.report.specs.Answers.{isObservation, request}
 use Rattle.night.specs.Record.{Fields, padded, recordOf, fieldsOf, isRecord}
@@ -51,17 +52,20 @@ abbrev pub writtenPaper : Written → Answer Done
 writtenPaper Written.Done = given done
 writtenPaper (Written.Refused x) = refusedBy (paper x)
 
--- Whether the record of observation n of a report is written to the list: the report's refusal, 16, 19, else done.
+-- Whether the record of observation n of a report is written to the list: the report's refusal, 16, 23 for a radar observation, 19, else done.
 abbrev pub writtenAnswer : Outcome → ℕ → List ℕ → Answer Done
 writtenAnswer (accepted os) n list =
     cond (isObservation os n)
-    (cond (hasPlace n list) (given done) (refusedBy (paper (request ListTooShort))))
+    (cond (isRadar (getD os (n - 1) []))
+    (refusedBy (paper (request NotOptical)))
+    (cond (hasPlace n list) (given done) (refusedBy (paper (request ListTooShort)))))
     (refusedBy (paper (request NoObservation)))
 writtenAnswer (refused x) n list = refusedBy (paper x)
 
 -- The list after it: where that is done, with the record in its place; else as it was.
 abbrev pub listAfter : Outcome → ℕ → List ℕ → List ℕ
-listAfter (accepted os) n list = cond (isObservation os n && hasPlace n list) (listWith n (recordOf n (getD os (n - 1) [])) list) list
+listAfter (accepted os) n list =
+    cond (isObservation os n && (not (isRadar (getD os (n - 1) [])) && hasPlace n list)) (listWith n (recordOf n (getD os (n - 1) [])) list) list
 listAfter (refused x) n list = list
 
 -- ---- what a record means

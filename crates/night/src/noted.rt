@@ -3,6 +3,7 @@ use crate::RECORD_SIZE;
 use crate::answer::Written;
 use crate::writing::put_record;
 use element::form;
+use element::observation::is_radar;
 use refusal::Kind;
 use refusal::Refusal;
 use report::answer::Checked;
@@ -71,7 +72,7 @@ fn write_noted(
     requires { ⌜ AcceptedIs (now report) (observation - 1) 1 (lent (now sets) (now starts) (now lengths)) count × (0 < rowsIn (now sets) (now starts) (now lengths)) ⌝ }
     ensures { λ r. ⌜ (writtenPaper r ≡ writtenAnswer (readOf (now (report .entry))) observation (now (list .entry))) × (now (list .exit) ≡ listAfter (readOf (now (report .entry))) observation (now (list .entry))) ⌝ }
 {
-    let answer = answer_at(count, observation, list.len());
+    let answer = answer_at(count, is_radar(sets[0]), observation, list.len());
     match answer {
         Written::Refused(refusal) => {
             return Written::Refused(refusal);
@@ -83,12 +84,16 @@ fn write_noted(
     }
 }
 
-// What writing the record of a number answers, of a report of so many observations to a list of so many bytes.
-fn answer_at(count: usize, number: usize, room: usize) -> Written
-    ensures { λ r. ⌜ writtenPaper r ≡ placeAnswer count number room ⌝ }
+// What writing the record of a number answers, of a report of so many observations to a list of so many bytes, where the observation is radar
+// or not.
+fn answer_at(count: usize, radar: bool, number: usize, room: usize) -> Written
+    ensures { λ r. ⌜ writtenPaper r ≡ placeAnswer count radar number room ⌝ }
 {
     if (number < 1) | (count < number) {
         return refused(Kind::NoObservation);
+    }
+    if radar {
+        return refused(Kind::NotOptical);
     }
     if room / RECORD_SIZE < number {
         return refused(Kind::ListTooShort);

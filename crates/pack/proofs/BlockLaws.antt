@@ -9,11 +9,13 @@ use lib.Dec.{eqb}
 use lib.ListN.{length, take, drop, getD, length-take, length-drop, length-map, length-append, drop-of-length-le, List·getD-map}
 use lib.Seq.{drop-cons, drop-drop, getD-take, getD-drop, ext-getD}
 use borrow.Author.Tests.{eq-eqb}
+use Rattle.text.proofs.Bools.{bools}
 use Rattle.element.specs.Set.{joined}
 use Rattle.element.specs.Observation.{Observation, setOf}
 use Rattle.report.specs.Report.{Outcome, accepted, refused, read, versionLine, member}
 use Rattle.report.specs.Index.{Index}
-use Rattle.layout.specs.Written.{lineOf, namesAt, dataLines, columnsOf, blockText, written, Valid}
+use Rattle.cuts.specs.Cuts.{stretch}
+use Rattle.layout.specs.Written.{lineOf, namesAt, dataLines, columnsOf, blockText, written, markOf, Valid}
 use Rattle.layout.proofs.Accepted.{AllRight, right-take, right-drop, accepted-right}
 use Rattle.layout.proofs.BlockReads.{first-column}
 use Rattle.layout.proofs.ColumnLaws.{columns-below, or-second}
@@ -159,11 +161,17 @@ module _ {report : List ℕ} {index : Index} {before : List ℕ} {first count : 
 -- One block after the other.
 
 -- The first of the cuts: it has a row at least, no more than there are, and the others cut the rows after it.
+-- No more rows may follow a row than there are.
+follow-few : (m : ℕ) (rows : List Observation) → stretch markOf m rows ≤ length rows
+unfolding stretch
+follow-few m [] = omega arith
+follow-few m (o ∷ os) = bools (eqb (markOf o) m) (λ e. rw e (omega (arith, follow-few m os))) (λ e. rw e (omega arith))
+
 valid-first : (count : ℕ) (cuts : List ℕ) (rows : List Observation) → Valid (count ∷ cuts) rows
     → (0 < count) × (count ≤ length rows) × Valid cuts (drop count rows)
 valid-first count cuts [] v = absurd v
 valid-first zero cuts (o ∷ os) v = absurd v
-valid-first (suc k) cuts (o ∷ os) v = (omega arith, omega (arith, v .0), v .1)
+valid-first (suc k) cuts (o ∷ os) v = (omega arith, omega (arith, v .0, follow-few (markOf o) os), v .1)
 
 -- The blocks of the first k cuts are written, which have the rows before `first`.
 pub record Blocks (cuts : List ℕ) (rows : List Observation) (before after : List ℕ) (at first k : ℕ) : Type 0 where

@@ -3,16 +3,17 @@
 use Prim.Native.Nat.{ℕ, zero, suc, _+_, _-_, _*_, _≤_, _<_}
 use mathlib.Core.Path.{_≡_, refl, sym, ap, _∙_}
 use mathlib.Core.Bool.{true}
-use mathlib.Core.List.{List, [], _∷_, _++_, map}
+use mathlib.Core.List.{List, [], _∷_, map}
 use native.Mathlib.Nat.{zero-add}
 use native.Mathlib.Omega.{arith}
-use lib.ListN.{length, take, drop, getD, length-take, length-drop, length-map, take-append-drop, List·getD-map}
+use lib.ListN.{length, take, drop, getD, length-take, length-drop, length-map, List·getD-map}
 use lib.Seq.{take-length, length-take-le, getD-take, getD-drop, ext-getD}
 use borrow.Author.Tests.{eq-eqb, le-leb}
 use Rattle.refusal.specs.declared.Refusal.{Refusal}
 use Rattle.element.specs.Set.{bytesIn}
 use Rattle.element.specs.Table.{elements}
 use Rattle.element.specs.Observation.{Observation, setOf}
+use Rattle.element.proofs.Sets.{set-radar}
 use Rattle.report.specs.Report.{accepted, read}
 use Rattle.report.specs.Index.{Index, roomIn, AcceptedIs, IndexIs}
 use Rattle.report.specs.declared.answer.Checked.{Checked}
@@ -20,17 +21,16 @@ use Rattle.report.specs.declared.answer.Checked.the-variants as Checked
 use Rattle.report.proofs.AnswerLaws.{accepted-of, refused-of}
 use Rattle.report.proofs.Join.{read-accepted}
 use Rattle.cuts.specs.Cuts.{cost, Cuts}
-use Rattle.cuts.specs.Block.{mostRows, mostBytes, Row, total, valueBytes, bytesOf, blockBytes, allMore}
-use Rattle.cuts.specs.Plan.{ready, Planned}
+use Rattle.cuts.specs.Block.{mostRows, mostBytes, total, valueBytes, bytesOf, blockBytes}
+use Rattle.cuts.specs.Plan.{Marked, markedBytes, ready, Planned}
 use Rattle.cuts.specs.declared.Plan.{Plan}
-use Rattle.cuts.proofs.SumLaws.{values-append}
-use Rattle.layout.specs.Written.{Valid}
-use Rattle.layout.specs.Cost.{sizeOf, asRow}
+use Rattle.layout.specs.Written.{markOf, Valid}
+use Rattle.layout.specs.Cost.{sizeOf, asMarked}
 use Rattle.layout.proofs.Accepted.{Right, AllRight, accepted-right, accepted-rows}
 use Rattle.layout.proofs.NoShorter.{Cutting, no-shorter}
 use Rattle.layout.proofs.BlockBytes.{written-bytes}
-use Rattle.layout.proofs.Packed.{rows-are, valid-rows, rows-valid, packed}
-use Rattle.pack.specs.Inner.{observationsOf, observed, Indexed, SizesAre, RowsCut, RoomFor, CutIs, PlannedIs}
+use Rattle.layout.proofs.Packed.{rows-are, together, valid-rows, rows-valid, packed}
+use Rattle.pack.specs.Inner.{observationsOf, observed, Indexed, SizesAre, markIn, RowsCut, RoomFor, CutIs, PlannedIs}
 use Rattle.pack.specs.declared.plan.Planned.the-variants as Planned′
 use Rattle.pack.proofs.BlockLaws.{rows-sets}
 use Rattle.pack.proofs.SizeLaws.{noted-size}
@@ -43,10 +43,10 @@ observed-is report e = ap observationsOf e
 -- The index.
 
 -- The index notes every observation, where it has room for them.
-pub indexed : {report : List ℕ} {old now : Index} {sizes cuts : List ℕ} {k : ℕ} → RoomFor (length (observed report)) old sizes cuts
+pub indexed : {report : List ℕ} {old now : Index} {sizes marks cuts : List ℕ} {k : ℕ} → RoomFor (length (observed report)) old sizes marks cuts
     → AcceptedIs report 0 (roomIn (old .sets) (old .starts) (old .lengths)) now k → length (now .sets) ≡ length (old .sets)
     → length (now .starts) ≡ length (old .starts) → length (now .lengths) ≡ length (old .lengths) → (k ≡ length (observed report)) × Indexed report now
-indexed {report} {old} {now} {sizes} {cuts} {k} r a es et el =
+indexed {report} {old} {now} {sizes} {marks} {cuts} {k} r a es et el =
     let o : observed report ≡ a .rows = observed-is report (a .is) in
     let n : k ≡ length (observed report) = sym (a .count) ∙ ap length (sym o) in (
       n,
@@ -60,31 +60,35 @@ indexed {report} {old} {now} {sizes} {cuts} {k} r a es et el =
 
 -- The sizes.
 
--- The bytes of the values of rows are the sum of their sizes.
-values-total : (L : List Observation) → valueBytes (map asRow L) ≡ total (map sizeOf L)
+-- The bytes of the values of rows.
+abbrev markedValues : List Marked → ℕ
+markedValues rows = valueBytes (map (λ marked. marked .row) rows)
+
+-- They are the sum of their sizes.
+values-total : (L : List Observation) → markedValues (map asMarked L) ≡ total (map sizeOf L)
 unfolding valueBytes total
 values-total [] = refl
 values-total (o ∷ os) = ap (λ (n : ℕ). sizeOf o + n) (values-total os)
 
-block-values : (rows : List Row) → valueBytes rows ≤ blockBytes rows
+-- Those of the first rows and those of the others.
+values-cut : (k : ℕ) (rows : List Marked) → markedValues (take k rows) + markedValues (drop k rows) ≡ markedValues rows
+unfolding valueBytes
+values-cut zero rows = omega arith
+values-cut (suc k) [] = omega arith
+values-cut (suc k) (x ∷ xs) = omega (arith, values-cut k xs)
+
+block-values : (rows : List Marked) → markedValues rows ≤ markedBytes rows
 unfolding blockBytes bytesOf
 block-values rows = omega arith
 
 -- Cut rows cost no less than their values.
-cost-values : (ks : List ℕ) (rows : List Row) → Cuts allMore ks rows → valueBytes rows ≤ cost blockBytes ks rows
+cost-values : (ks : List ℕ) (rows : List Marked) → Cuts together ks rows → markedValues rows ≤ cost markedBytes ks rows
 cost-values [] [] v = unfold valueBytes in omega arith
 cost-values [] (x ∷ xs) v = absurd v
 cost-values (k ∷ ks) [] v = absurd v
 cost-values (zero ∷ ks) (x ∷ xs) v = absurd v
 cost-values (suc k ∷ ks) (x ∷ xs) v =
-    let e : (x ∷ take k xs) ++ drop k xs ≡ x ∷ xs = ap (λ (l : List Row). x ∷ l) (take-append-drop k xs) in
-    omega (
-      arith,
-      ap valueBytes e,
-      values-append (x ∷ take k xs) (drop k xs),
-      block-values (x ∷ take k xs),
-      cost-values ks (drop k xs) (v .1),
-    )
+    omega (arith, values-cut (suc k) (x ∷ xs), block-values (x ∷ take k xs), cost-values ks (drop k xs) (v .1))
 
 -- The values of an accepted report are within the text limit.
 pub values-few : (report : List ℕ) (L : List Observation) → read report ≡ accepted L → total (map sizeOf L) ≤ mostBytes
@@ -93,7 +97,7 @@ values-few report L h =
     omega (
       arith,
       values-total L,
-      cost-values (c .cuts) (map asRow L) (valid-rows (c .cuts) L (c .valid)),
+      cost-values (c .cuts) (map asMarked L) (valid-rows (c .cuts) L (c .valid)),
       written-bytes (c .cuts) L (c .valid) (accepted-right report L h),
       c .within,
       read-accepted report L h .0,
@@ -104,6 +108,11 @@ right-at : (L : List Observation) (i : ℕ) → AllRight L → i < length L → 
 right-at [] i r h = absurd (omega arith)
 right-at (o ∷ os) zero r h = r .0
 right-at (o ∷ os) (suc i) r h = right-at os i (r .1) (omega arith)
+
+-- The marks of the rows, from their sets.
+marks-of : (L : List Observation) → map markIn (map setOf L) ≡ map markOf L
+marks-of [] = refl
+marks-of (o ∷ os) = rw (set-radar o, marks-of os)
 
 module _ {report : List ℕ} {index : Index} (is : read report ≡ accepted (observed report)) (x : Indexed report index) where
   -- The size of a row, as the index notes it.
@@ -139,12 +148,15 @@ module _ {report : List ℕ} {index : Index} (is : read report ≡ accepted (obs
       rw (e, take-length (observed report)) at (rows-sets 0 n x (omega arith))
 
   -- The input of the search is ready.
-  sets-ready : (cuts : List ℕ) → length (observed report) ≤ length cuts → ready (map setOf (observed report)) (map sizeOf (observed report)) cuts ≡ true
+  sets-ready : (cuts : List ℕ) → length (observed report) ≤ length cuts
+      → ready (map markOf (observed report)) (map setOf (observed report)) (map sizeOf (observed report)) cuts ≡ true
   unfolding ready
   sets-ready cuts h =
+      let l = length-map (observed report) markOf in
       let m = length-map (observed report) setOf in
       let n = length-map (observed report) sizeOf in
       rw (
+        eq-eqb (length (map markOf (observed report))) (length (map setOf (observed report))) (l ∙ sym m),
         eq-eqb (length (map sizeOf (observed report))) (length (map setOf (observed report))) (n ∙ sym m),
         le-leb (length (map setOf (observed report))) mostRows (omega (arith, accepted-rows report (observed report) is)),
         le-leb (length (map setOf (observed report))) (length cuts) (omega arith),
@@ -156,8 +168,8 @@ module _ {report : List ℕ} {index : Index} (is : read report ≡ accepted (obs
       → length (observed report) ≤ length before → CutIs report index after plan
   cuts-planned {sizes} {before} {after} {plan} r room =
       let e : take (length (observed report)) sizes ≡ map sizeOf (observed report) = sizes-of (r .filled) (r .sizes-are) in
-      let p : Planned allMore (map asRow (observed report)) plan before after =
-      rw (sets-of, e, sets-ready before room, rows-are (observed report)) at (r .promised) in
+      let p : Planned markedBytes together (map asMarked (observed report)) plan before after =
+      rw (sets-of, marks-of (observed report), e, sets-ready before room, rows-are (observed report)) at (r .promised) in
       let v : Valid (take (plan .blocks) after) (observed report) = rows-valid (take (plan .blocks) after) (observed report) (p .wanted .cuts) in
       record {
         is = is;
@@ -175,7 +187,8 @@ pub plan-refused : {report : List ℕ} {room : ℕ} {index : Index} (cuts : List
     → answer ≡ Checked.Refused refusal → PlannedIs report index cuts (Planned′.Refused refusal)
 plan-refused cuts i e = record { case = refused-of i e }
 
-module _ {report : List ℕ} {old index : Index} {sizes cuts : List ℕ} {answer : Checked} {k : ℕ} (room : RoomFor (length (observed report)) old sizes cuts)
+module _ {report : List ℕ} {old index : Index} {sizes marks cuts : List ℕ} {answer : Checked} {k : ℕ}
+    (room : RoomFor (length (observed report)) old sizes marks cuts)
     (i : IndexIs report 0 (roomIn (old .sets) (old .starts) (old .lengths)) index answer) (sets-kept : length (index .sets) ≡ length (old .sets))
     (starts-kept : length (index .starts) ≡ length (old .starts)) (lengths-kept : length (index .lengths) ≡ length (old .lengths))
     (e : answer ≡ Checked.Accepted k) where
@@ -183,11 +196,11 @@ module _ {report : List ℕ} {old index : Index} {sizes cuts : List ℕ} {answer
   noted = indexed room (accepted-of i e) sets-kept starts-kept lengths-kept
 
   -- The rows of an accepted report can be cut.
-  pub rows-ask : (k ≤ length (index .sets)) × (k * elements ≤ length (index .lengths)) × (k ≤ length sizes)
+  pub rows-ask : (k ≤ length (index .sets)) × (k * elements ≤ length (index .lengths)) × (k ≤ length sizes) × (k ≤ length marks)
   rows-ask =
       let n = noted .0 in
       let x = noted .1 in
-      (omega (arith, x .sets-room), omega (arith, x .lengths-room), omega (arith, room .sizes-room))
+      (omega (arith, x .sets-room), omega (arith, x .lengths-room), omega (arith, room .sizes-room), omega (arith, room .marks-room))
 
   -- They are cut.
   pub plan-cut : {filled after : List ℕ} {plan : Plan} → RowsCut (index .sets) (index .lengths) filled k cuts after plan

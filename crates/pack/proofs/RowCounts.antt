@@ -55,8 +55,8 @@ rows-counted (line l ls) s n k L h = by-step (step s k l) (λ t j M e. rows-coun
         → after x n s k (λ t j. readFrom t (suc n) j ls) ≡ accepted L → length L ≤ suc (lineCount ls)
     by-step (next t) ih h = omega (arith, ih t k L h)
     by-step (row o) ih h =
-        let r = more-accepted o (readFrom (afterRow s) (suc n) (suc k) ls) L h in
-        omega (arith, ih (afterRow s) (suc k) (r .0) (r .1), ap length (r .2))
+        let r = more-accepted o (readFrom (afterRow o s) (suc n) (suc k) ls) L h in
+        omega (arith, ih (afterRow o s) (suc k) (r .0) (r .1), ap length (r .2))
     by-step (bad kind p) ih h = absurd (refused≢accepted h)
 
 -- What holds of the observations of every accepted report, and of none, holds of those of any report.

@@ -1,4 +1,4 @@
--- The sham packers of document 01: for each a report and an output where it does not keep the promise of packing.
+-- The sham packers of document 01, and one of document 02's order 3: for each a report and an output where it does not keep the promise of packing.
 use Prim.Native.Nat.{ℕ, _≤_}
 use mathlib.Core.Path.{_≡_, refl, sym, ap, _∙_}
 use mathlib.Core.List.{List}
@@ -79,6 +79,10 @@ copied-under = writer-caught _ Texts.copied-under
 -- Lays out the first block well and copies the remaining rows in blocks as they came.
 pub copied-blocks : Caught (writer Texts.copiedBlocks)
 copied-blocks = writer-caught _ Texts.copied-blocks
+
+-- Joins kinds: puts every row into one block.
+pub kinds-joined : Caught (writer Texts.kindsJoined)
+kinds-joined = writer-caught _ Texts.kinds-joined
 
 -- Leaves the output alone, whatever it answers: over 104 zero bytes the specimen is written.
 pub output-left-alone : (answer : List ℕ → List ℕ → Answer ℕ) → Caught (λ report output. (output, answer report output))

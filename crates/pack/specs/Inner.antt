@@ -2,14 +2,14 @@
 use Prim.Native.Nat.{ℕ, _+_, _*_, _≤_, _<_}
 use mathlib.Core.Path.{_≡_}
 use mathlib.Core.Bool.{Bool, cond, _&&_}
-use mathlib.Core.List.{List, [], _∷_, _++_}
+use mathlib.Core.List.{List, [], _∷_, _++_, map}
 use lib.Dec.{eqb, leb, ltb}
 use lib.ListN.{length, take, drop, getD}
 use Rattle.text.specs.Lines.{lineFeed, bar}
 use Rattle.text.specs.Output.{over}
 use Rattle.element.specs.Set.{has}
 use Rattle.element.specs.Table.{elements, columnOrder}
-use Rattle.element.specs.Observation.{Observation}
+use Rattle.element.specs.Observation.{Observation, bit, isRadarSet}
 use Rattle.report.specs.Report.{Outcome, accepted, refused, read}
 use Rattle.report.specs.Starts.{startsIn}
 use Rattle.report.specs.Index.{Index, Noted, notedBytes}
@@ -121,18 +121,23 @@ pub record BlocksAsk (report : List ℕ) (index : Index) (cuts output : List ℕ
 pub record SizesAre (sets lengths sizes : List ℕ) (count : ℕ) : Type 0 where
   pub at : (i : ℕ) → i < count → getD sizes i 0 ≡ notedBytes sets lengths i
 
--- The first rows of the index are cut, by their sets and their sizes, which are filled in.
+-- The mark of the observation with this set.
+abbrev pub markIn : ℕ → ℕ
+markIn set = bit (isRadarSet set)
+
+-- The first rows of the index are cut, by their sets, the marks of these, and their sizes, which are filled in.
 pub record RowsCut (sets lengths sizes : List ℕ) (rows : ℕ) (before after : List ℕ) (plan : Plan) : Type 0 where
   pub filled : rows ≤ length sizes
   pub sizes-are : SizesAre sets lengths sizes rows
-  pub promised : ShortestPromised (take rows sets) (take rows sizes) plan before after
+  pub promised : ShortestPromised (map markIn (take rows sets)) (take rows sets) (take rows sizes) plan before after
 
 -- The lent lists have room for so many rows, and the index for one row more, which the reader uses itself.
-pub record RoomFor (rows : ℕ) (index : Index) (sizes cuts : List ℕ) : Type 0 where
+pub record RoomFor (rows : ℕ) (index : Index) (sizes marks cuts : List ℕ) : Type 0 where
   pub sets-room : rows < length (index .sets)
   pub starts-room : rows * elements + elements ≤ length (index .starts)
   pub lengths-room : rows * elements + elements ≤ length (index .lengths)
   pub sizes-room : rows ≤ length sizes
+  pub marks-room : rows ≤ length marks
   pub cuts-room : rows ≤ length cuts
 
 -- The first of the cuts write the packed report, which has so many bytes, and the index notes the report.

@@ -17,7 +17,7 @@ use Rattle.element.specs.Observation.{Observation, observationFault}
 use Rattle.element.specs.declared.form.Check.{Check}
 use Rattle.element.specs.declared.form.Check.the-variants.{Fine, Bad}
 use Rattle.element.proofs.Before.{faultBefore, fault-kept}
-use Rattle.report.specs.Report.{textLimit, rowLimit, versionLine, isHash, State, Step, next, row, bad, columnsFrom, orNext, fieldFault, rowOf, rowUnless, dataLine, opened, other, step, Outcome, accepted, refuse, more, atEnd, afterRow, after, readFrom, begin, read}
+use Rattle.report.specs.Report.{textLimit, rowLimit, versionLine, isHash, State, Step, next, row, bad, columnsFrom, orNext, fieldFault, rowOf, rowUnless, dataLine, ofKind, opened, other, step, Outcome, accepted, refuse, more, atEnd, afterRow, after, readFrom, begin, read}
 use Rattle.report.specs.declared.state.Need.{Need}
 use Rattle.report.specs.declared.state.Need.the-variants as Need
 use Rattle.report.proofs.Join.{refused≢accepted, more-accepted}
@@ -37,18 +37,18 @@ module _ (fault : ℕ → List ℕ → Check) where
       (bad FieldCountDiffers 0))
       (bad TooManyRows 0)
 
-  abbrev pub otherBy : Need → List ℕ → ℕ → List ℕ → Step
-  otherBy Need.Version columns k l = bad VersionExpected 0
-  otherBy Need.Columns columns k l = columnsFrom [] (fields l)
-  otherBy Need.Row columns k l = dataLineBy columns k l
-  otherBy Need.Nothing columns k l = dataLineBy columns k l
+  abbrev pub otherBy : Need → List ℕ → Bool → ℕ → List ℕ → Step
+  otherBy Need.Version columns radar k l = bad VersionExpected 0
+  otherBy Need.Columns columns radar k l = columnsFrom [] (fields l)
+  otherBy Need.Row columns radar k l = dataLineBy columns k l
+  otherBy Need.Nothing columns radar k l = ofKind radar (dataLineBy columns k l)
 
   unfoldable pub stepBy : State → ℕ → List ℕ → Step
   stepBy s k l =
       cond (printable l)
       (cond (isHash l)
       (cond (same l versionLine) (opened (s .need)) (bad VersionExpected 0))
-      (otherBy (s .need) (s .columns) k l))
+      (otherBy (s .need) (s .columns) (s .radar) k l))
       (bad WrongByte 0)
 
   unfoldable pub readFromBy : State → ℕ → ℕ → Lines → Outcome
@@ -63,7 +63,7 @@ module _ (fault : ℕ → List ℕ → Check) where
 after-alike : (x : Step) (n : ℕ) (old : State) (k : ℕ) (go go′ : State → ℕ → Outcome) → ((s : State) (i : ℕ) → go s i ≡ go′ s i)
     → after x n old k go ≡ after x n old k go′
 after-alike (next s) n old k go go′ h = h s k
-after-alike (row o) n old k go go′ h = ap (more o) (h (afterRow old) (suc k))
+after-alike (row o) n old k go go′ h = ap (more o) (h (afterRow o old) (suc k))
 after-alike (bad kind p) n old k go go′ h = refl
 
 -- By the rule that stands, it is the reader that stands.
@@ -77,15 +77,15 @@ data-by : (columns : List ℕ) (k : ℕ) (l : List ℕ) → dataLineBy faultOf c
 unfolding dataLineBy dataLine
 data-by columns k l = rw (fields-by 1 columns (fields l))
 
-other-by : (need : Need) (columns : List ℕ) (k : ℕ) (l : List ℕ) → otherBy faultOf need columns k l ≡ other need columns k l
-other-by Need.Version columns k l = refl
-other-by Need.Columns columns k l = refl
-other-by Need.Row columns k l = data-by columns k l
-other-by Need.Nothing columns k l = data-by columns k l
+other-by : (need : Need) (columns : List ℕ) (radar : Bool) (k : ℕ) (l : List ℕ) → otherBy faultOf need columns radar k l ≡ other need columns radar k l
+other-by Need.Version columns radar k l = refl
+other-by Need.Columns columns radar k l = refl
+other-by Need.Row columns radar k l = data-by columns k l
+other-by Need.Nothing columns radar k l = ap (ofKind radar) (data-by columns k l)
 
 step-by : (s : State) (k : ℕ) (l : List ℕ) → stepBy faultOf s k l ≡ step s k l
 unfolding stepBy step
-step-by s k l = rw (other-by (s .need) (s .columns) k l)
+step-by s k l = rw (other-by (s .need) (s .columns) (s .radar) k l)
 
 from-by : (ls : Lines) (s : State) (n k : ℕ) → readFromBy faultOf s n k ls ≡ readFrom s n k ls
 unfolding readFromBy readFrom
@@ -102,6 +102,12 @@ abbrev isGood : Step → Bool
 isGood (next s) = true
 isGood (row o) = true
 isGood (bad k p) = false
+
+-- A row that is not refused for its kind was not refused.
+kind-good : (radar : Bool) (x : Step) → isGood (ofKind radar x) ≡ true → isGood x ≡ true
+kind-good radar (next s) e = refl
+kind-good radar (row o) e = refl
+kind-good radar (bad k p) e = e
 
 -- What stays where it is good stays so behind a test.
 then-kept : (test : Bool) (before now otherwise : Step) → (isGood before ≡ true → now ≡ before) → isGood (cond test before otherwise) ≡ true
@@ -129,8 +135,8 @@ after-kept : (x y : Step) (n : ℕ) (old : State) (k : ℕ) (go go′ : State �
     → (os : List Observation) → after x n old k go ≡ accepted os → after y n old k go′ ≡ accepted os
 after-kept (next s) y n old k go go′ h later os e = rw (h refl) (later s k os e)
 after-kept (row o) y n old k go go′ h later os e =
-    let m = more-accepted o (go (afterRow old) (suc k)) os e in
-    rw (h refl, later (afterRow old) (suc k) (m .0) (m .1)) (ap accepted (sym (m .2)))
+    let m = more-accepted o (go (afterRow o old) (suc k)) os e in
+    rw (h refl, later (afterRow o old) (suc k) (m .0) (m .1)) (ap accepted (sym (m .2)))
 after-kept (bad kind p) y n old k go go′ h later os e = absurd (refused≢accepted e)
 
 -- A reader that finds no fault in a value only where none stands: what it accepts is accepted.
@@ -152,17 +158,17 @@ module _ (fault : ℕ → List ℕ → Check) (right : (index : ℕ) (text : Lis
       (row-kept (fieldFaultBy fault 1 columns (fields l)) (fieldFault 1 columns (fields l)) (observationFault (rowOf columns (fields l)))
       (rowOf columns (fields l)) (fields-kept 1 columns (fields l))))
 
-  other-kept : (need : Need) (columns : List ℕ) (k : ℕ) (l : List ℕ) → isGood (otherBy fault need columns k l) ≡ true
-      → other need columns k l ≡ otherBy fault need columns k l
-  other-kept Need.Version columns k l e = refl
-  other-kept Need.Columns columns k l e = refl
-  other-kept Need.Row columns k l e = data-kept columns k l e
-  other-kept Need.Nothing columns k l e = data-kept columns k l e
+  other-kept : (need : Need) (columns : List ℕ) (radar : Bool) (k : ℕ) (l : List ℕ) → isGood (otherBy fault need columns radar k l) ≡ true
+      → other need columns radar k l ≡ otherBy fault need columns radar k l
+  other-kept Need.Version columns radar k l e = refl
+  other-kept Need.Columns columns radar k l e = refl
+  other-kept Need.Row columns radar k l e = data-kept columns k l e
+  other-kept Need.Nothing columns radar k l e = ap (ofKind radar) (data-kept columns k l (kind-good radar (dataLineBy fault columns k l) e))
 
   step-kept : (s : State) (k : ℕ) (l : List ℕ) → isGood (stepBy fault s k l) ≡ true → step s k l ≡ stepBy fault s k l
   unfolding stepBy step
   step-kept s k l =
-      then-kept (printable l) _ _ _ (else-kept (isHash l) _ _ _ (other-kept (s .need) (s .columns) k l))
+      then-kept (printable l) _ _ _ (else-kept (isHash l) _ _ _ (other-kept (s .need) (s .columns) (s .radar) k l))
 
   from-kept : (ls : Lines) (s : State) (n k : ℕ) (os : List Observation) → readFromBy fault s n k ls ≡ accepted os → readFrom s n k ls ≡ accepted os
   unfolding readFromBy readFrom

@@ -84,7 +84,7 @@ module _ {l columns₀ columns : List ℕ} {a k start size till : ℕ} (s : Nami
           (λ q. let e : j ≡ k = eqb-true j k q in rw (e, getD-set-same columns k i 0 (omega (arith, name-room, s .long))) h)
           (λ q. let n = eqb-false j k q in rw (getD-set-other columns k j i 0 n) (s .known j (omega (arith, n))))
 
-      pub name-found : till ≡ length l → NamedAs l (set columns k i) (record { need = Need.Row; columns = k + 1 })
+      pub name-found : till ≡ length l → NamedAs l (set columns k i) (record { need = Need.Row; columns = k + 1; radar = false })
       unfolding columnsFrom
       name-found t =
           let u : upTo 124 (drop a l) ≡ length (drop a l) = omega (arith, f .till-is, s .at-most, length-drop a l) in

@@ -1,9 +1,9 @@
 -- Two reports join: where the text of one stands after the other's, the observations are those of the first and then those of the
 -- second, as long as the limits of bytes and of rows hold.
 use Prim.Native.Nat.{ℕ, suc, _≤_, _<_, _+_}
-use mathlib.Core.Path.{_≡_, refl, ap, sym}
+use mathlib.Core.Path.{_≡_, refl, ap, sym, _∙_}
 use mathlib.Core.List.{List, [], _∷_, _++_}
-use mathlib.Core.Bool.{Bool, true, false, true≢false}
+use mathlib.Core.Bool.{Bool, true, false, true≢false, Bool·beq}
 use lib.ListN.{length}
 use lib.Dec.{eqb, ltb}
 use borrow.Author.Tests.{lt-ltb, le-ltb, ltb-false}
@@ -15,10 +15,10 @@ use Rattle.refusal.specs.declared.Kind.{Kind}
 use Rattle.refusal.specs.declared.Fault.{Fault}
 use Rattle.refusal.specs.declared.Fault.the-variants.{Sound, At}
 use Rattle.refusal.specs.declared.Refusal.{Refusal}
-use Rattle.element.specs.Observation.{Observation, observationFault}
+use Rattle.element.specs.Observation.{Observation, isRadar, observationFault}
 use Rattle.report.specs.declared.state.Need.{Need}
 use Rattle.report.specs.declared.state.Need.the-variants as Need
-use Rattle.report.specs.Report.{textLimit, rowLimit, versionLine, isHash, State, Step, next, row, bad, fieldFault, rowOf, rowUnless, dataLine, opened, other, step, Outcome, accepted, refused, more, atEnd, afterRow, after, readFrom, begin, read}
+use Rattle.report.specs.Report.{textLimit, rowLimit, versionLine, isHash, State, Step, next, row, bad, fieldFault, rowOf, rowUnless, dataLine, ofKind, opened, other, step, Outcome, accepted, refused, more, atEnd, afterRow, after, readFrom, begin, read}
 
 -- A refusal is no state.
 pub bad≢next : {k : Kind} {p : ℕ} {s : State} → bad k p ≡ next s → ⊥
@@ -91,31 +91,58 @@ unfolding dataLine
 data-row columns k j l o h b =
     bools (ltb k rowLimit) (λ a. rw (lt-ltb j rowLimit b) (rw a at h)) (λ a. absurd (bad≢row (rw a at h)))
 
-other-next : (need : Need) (columns : List ℕ) (k j : ℕ) (l : List ℕ) (s : State) → other need columns k l ≡ next s → other need columns j l ≡ next s
-other-next Need.Version columns k j l s h = h
-other-next Need.Columns columns k j l s h = h
-other-next Need.Row columns k j l s h = absurd (data-next columns k l s h)
-other-next Need.Nothing columns k j l s h = absurd (data-next columns k l s h)
+-- A row that is taken after rows of its block is of their kind.
+pub kind-row : (radar : Bool) (x : Step) (o : Observation) → ofKind radar x ≡ row o → (x ≡ row o) × (Bool·beq radar (isRadar o) ≡ true)
+kind-row radar (next s) o h = absurd (next≢row h)
+kind-row radar (row p) o h =
+    bools (Bool·beq radar (isRadar p))
+    (λ a.
+    let e : row p ≡ row o = rw a at h in
+    let q : p ≡ o = cc in
+    (e, ap (λ (x : Observation). Bool·beq radar (isRadar x)) (sym q) ∙ a))
+    (λ a. absurd (bad≢row (rw a at h)))
+kind-row radar (bad kind p) o h = absurd (bad≢row h)
 
-other-row : (need : Need) (columns : List ℕ) (k j : ℕ) (l : List ℕ) (o : Observation) → other need columns k l ≡ row o → j < rowLimit
-    → other need columns j l ≡ row o
-other-row Need.Version columns k j l o h b = h
-other-row Need.Columns columns k j l o h b = h
-other-row Need.Row columns k j l o h b = data-row columns k j l o h b
-other-row Need.Nothing columns k j l o h b = data-row columns k j l o h b
+-- And a row of their kind is taken.
+pub row-kind : (radar : Bool) (x : Step) (o : Observation) → x ≡ row o → Bool·beq radar (isRadar o) ≡ true → ofKind radar x ≡ row o
+row-kind radar x o e a = rw (e, a)
+
+-- A data line comes to no state after rows of its block either.
+pub kind-next : (radar : Bool) (columns : List ℕ) (k : ℕ) (l : List ℕ) (s : State) → ofKind radar (dataLine columns k l) ≡ next s → ⊥
+kind-next radar columns k l s h = go (dataLine columns k l) refl h
+  where
+    go : (x : Step) → dataLine columns k l ≡ x → ofKind radar x ≡ next s → ⊥
+    go (next t) e h = data-next columns k l t e
+    go (row o) e h = bools (Bool·beq radar (isRadar o)) (λ a. next≢row (sym (rw a at h))) (λ a. bad≢next (rw a at h))
+    go (bad kind p) e h = bad≢next h
+
+other-next : (need : Need) (columns : List ℕ) (radar : Bool) (k j : ℕ) (l : List ℕ) (s : State) → other need columns radar k l ≡ next s
+    → other need columns radar j l ≡ next s
+other-next Need.Version columns radar k j l s h = h
+other-next Need.Columns columns radar k j l s h = h
+other-next Need.Row columns radar k j l s h = absurd (data-next columns k l s h)
+other-next Need.Nothing columns radar k j l s h = absurd (kind-next radar columns k l s h)
+
+other-row : (need : Need) (columns : List ℕ) (radar : Bool) (k j : ℕ) (l : List ℕ) (o : Observation) → other need columns radar k l ≡ row o
+    → j < rowLimit → other need columns radar j l ≡ row o
+other-row Need.Version columns radar k j l o h b = h
+other-row Need.Columns columns radar k j l o h b = h
+other-row Need.Row columns radar k j l o h b = data-row columns k j l o h b
+other-row Need.Nothing columns radar k j l o h b =
+    let r = kind-row radar (dataLine columns k l) o h in row-kind radar (dataLine columns j l) o (data-row columns k j l o (r .0) b) (r .1)
 
 step-next : (s : State) (k j : ℕ) (l : List ℕ) (t : State) → step s k l ≡ next t → step s j l ≡ next t
 unfolding step
 step-next s k j l t h =
     bools (printable l)
-    (λ a. bools (isHash l) (λ b. rw (a, b) (rw (a, b) at h)) (λ b. rw (a, b) (other-next (s .need) (s .columns) k j l t (rw (a, b) at h))))
+    (λ a. bools (isHash l) (λ b. rw (a, b) (rw (a, b) at h)) (λ b. rw (a, b) (other-next (s .need) (s .columns) (s .radar) k j l t (rw (a, b) at h))))
     (λ a. absurd (bad≢next (rw a at h)))
 
 step-row : (s : State) (k j : ℕ) (l : List ℕ) (o : Observation) → step s k l ≡ row o → j < rowLimit → step s j l ≡ row o
 unfolding step
 step-row s k j l o h r =
     bools (printable l)
-    (λ a. bools (isHash l) (λ b. rw (a, b) (rw (a, b) at h)) (λ b. rw (a, b) (other-row (s .need) (s .columns) k j l o (rw (a, b) at h) r)))
+    (λ a. bools (isHash l) (λ b. rw (a, b) (rw (a, b) at h)) (λ b. rw (a, b) (other-row (s .need) (s .columns) (s .radar) k j l o (rw (a, b) at h) r)))
     (λ a. absurd (bad≢row (rw a at h)))
 
 -- What is accepted from one line number and one number of data lines on is accepted from others, while the rows are within the limit.
@@ -138,9 +165,9 @@ read-moved (line l ls) s n k m j L h b = by-step (step s k l) refl (λ t k′ j�
         → after (step s j l) m s j (λ t k′. readFrom t (suc m) k′ ls) ≡ accepted L
     by-step (next t) e ih h = rw (step-next s k j l t e) (ih t k j L h b)
     by-step (row o) e ih h =
-        let r = more-accepted o (readFrom (afterRow s) (suc n) (suc k) ls) L h in
+        let r = more-accepted o (readFrom (afterRow o s) (suc n) (suc k) ls) L h in
         let c : j + length (o ∷ r .0) ≤ rowLimit = rw (r .2) at b in
-        rw (step-row s k j l o e (omega arith), ih (afterRow s) (suc k) (suc j) (r .0) (r .1) (omega arith)) (ap accepted (sym (r .2)))
+        rw (step-row s k j l o e (omega arith), ih (afterRow o s) (suc k) (suc j) (r .0) (r .1) (omega arith)) (ap accepted (sym (r .2)))
     by-step (bad kind p) e ih h = absurd (refused≢accepted h)
 
 -- Where a block may begin, a text that is accepted from its beginning is accepted.
@@ -159,7 +186,7 @@ begin-anywhere (line l ls) s n k L o h b =
     bools (printable l)
     (λ p. bools (isHash l)
     (λ q. bools (same l versionLine)
-    (λ v. rw (p, q, v, o) (read-moved ls (record { need = Need.Columns; columns = [] }) 2 0 (suc n) k L (rw (p, q, v) at h) b))
+    (λ v. rw (p, q, v, o) (read-moved ls (record { need = Need.Columns; columns = []; radar = false }) 2 0 (suc n) k L (rw (p, q, v) at h) b))
     (λ v. absurd (refused≢accepted (rw (p, q, v) at h))))
     (λ q. absurd (refused≢accepted (rw (p, q) at h))))
     (λ p. absurd (refused≢accepted (rw p at h)))
@@ -190,10 +217,10 @@ join-lines (line l ls) s n k A B rest h g b =
         → after x n s k (λ t k′. readFrom t (suc n) k′ (followed ls rest)) ≡ accepted (A ++ B)
     by-step (next t) ih h = ih t k A h b
     by-step (row o) ih h =
-        let r = more-accepted o (readFrom (afterRow s) (suc n) (suc k) ls) A h in
+        let r = more-accepted o (readFrom (afterRow o s) (suc n) (suc k) ls) A h in
         let e : A ++ B ≡ o ∷ (r .0 ++ B) = ap (λ (x : List Observation). x ++ B) (r .2) in
         let c : k + length (o ∷ (r .0 ++ B)) ≤ rowLimit = rw e at b in
-        rw (ih (afterRow s) (suc k) (r .0) (r .1) (omega arith)) (ap accepted (sym e))
+        rw (ih (afterRow o s) (suc k) (r .0) (r .1) (omega arith)) (ap accepted (sym e))
     by-step (bad kind p) ih h = absurd (refused≢accepted h)
 
 -- Lines that are accepted each have their LF.
@@ -206,7 +233,7 @@ accepted-whole (line l ls) s n k A h = by-step (step s k l) (λ t k′ M e. acce
     by-step : (x : Step) → ((t : State) (k′ : ℕ) (M : List Observation) → readFrom t (suc n) k′ ls ≡ accepted M → isWhole ls ≡ true)
         → after x n s k (λ t k′. readFrom t (suc n) k′ ls) ≡ accepted A → isWhole ls ≡ true
     by-step (next t) ih h = ih t k A h
-    by-step (row o) ih h = let r = more-accepted o (readFrom (afterRow s) (suc n) (suc k) ls) A h in ih (afterRow s) (suc k) (r .0) (r .1)
+    by-step (row o) ih h = let r = more-accepted o (readFrom (afterRow o s) (suc n) (suc k) ls) A h in ih (afterRow o s) (suc k) (r .0) (r .1)
     by-step (bad kind p) ih h = absurd (refused≢accepted h)
 
 -- An accepted text is within the limit, and its lines are accepted.

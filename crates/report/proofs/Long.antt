@@ -1,7 +1,7 @@
 -- Every observation that a text reads as has a value for each element, empty where the element is absent.
 use Prim.Native.Nat.{ℕ, suc}
 use mathlib.Core.Path.{_≡_, refl, _∙_}
-use mathlib.Core.Bool.{cond}
+use mathlib.Core.Bool.{Bool, cond, Bool·beq}
 use mathlib.Core.List.{List, [], _∷_}
 use lib.Dec.{eqb, ltb}
 use lib.ListN.{length, set, replicate, length-set, length-replicate}
@@ -11,10 +11,10 @@ use Rattle.text.proofs.Bools.{bools}
 use Rattle.refusal.specs.declared.Fault.{Fault}
 use Rattle.refusal.specs.declared.Fault.the-variants.{Sound, At}
 use Rattle.element.specs.Table.{elements, indexOf}
-use Rattle.element.specs.Observation.{Observation, isPresent, observationFault}
+use Rattle.element.specs.Observation.{Observation, isPresent, isRadar, observationFault}
 use Rattle.report.specs.declared.state.Need.{Need}
 use Rattle.report.specs.declared.state.Need.the-variants as Need
-use Rattle.report.specs.Report.{textLimit, rowLimit, versionLine, isHash, State, Step, next, row, bad, member, columnsFrom, fieldFault, fill, rowOf, rowUnless, dataLine, opened, other, step, Outcome, accepted, refused, more, atEnd, afterRow, after, readFrom, begin, read}
+use Rattle.report.specs.Report.{textLimit, rowLimit, versionLine, isHash, State, Step, next, row, bad, member, columnsFrom, fieldFault, fill, rowOf, rowUnless, dataLine, ofKind, opened, other, step, Outcome, accepted, refused, more, atEnd, afterRow, after, readFrom, begin, read}
 
 -- Each of the observations has a value for each element.
 abbrev pub AllLong : List Observation → Type 0
@@ -74,11 +74,16 @@ opened-long Need.Columns = tt
 opened-long Need.Row = tt
 opened-long Need.Nothing = tt
 
-other-long : (need : Need) (columns : List ℕ) (k : ℕ) (l : List ℕ) → LongStep (other need columns k l)
-other-long Need.Version columns k l = tt
-other-long Need.Columns columns k l = columns-long (fields l) []
-other-long Need.Row columns k l = data-long columns k l
-other-long Need.Nothing columns k l = data-long columns k l
+kind-long : (radar : Bool) (x : Step) → LongStep x → LongStep (ofKind radar x)
+kind-long radar (next s) h = h
+kind-long radar (row o) h = bools (Bool·beq radar (isRadar o)) (λ a. rw a h) (λ a. rw a tt)
+kind-long radar (bad kind p) h = h
+
+other-long : (need : Need) (columns : List ℕ) (radar : Bool) (k : ℕ) (l : List ℕ) → LongStep (other need columns radar k l)
+other-long Need.Version columns radar k l = tt
+other-long Need.Columns columns radar k l = columns-long (fields l) []
+other-long Need.Row columns radar k l = data-long columns k l
+other-long Need.Nothing columns radar k l = kind-long radar (dataLine columns k l) (data-long columns k l)
 
 step-long : (s : State) (k : ℕ) (l : List ℕ) → LongStep (step s k l)
 unfolding step
@@ -86,7 +91,7 @@ step-long s k l =
     bools (printable l)
     (λ a. bools (isHash l)
     (λ b. bools (same l versionLine) (λ c. rw (a, b, c) (opened-long (s .need))) (λ c. rw (a, b, c) tt))
-    (λ b. rw (a, b) (other-long (s .need) (s .columns) k l)))
+    (λ b. rw (a, b) (other-long (s .need) (s .columns) (s .radar) k l)))
     (λ a. rw a tt)
 
 more-long : (o : Observation) (x : Outcome) → length o ≡ elements → Long x → Long (more o x)
@@ -101,7 +106,7 @@ end-long Need.Nothing n = tt
 
 after-long : (x : Step) (n : ℕ) (s : State) (k : ℕ) (go : State → ℕ → Outcome) → LongStep x → ((t : State) (j : ℕ) → Long (go t j)) → Long (after x n s k go)
 after-long (next t) n s k go h l = l t k
-after-long (row o) n s k go h l = more-long o (go (afterRow s) (suc k)) h (l (afterRow s) (suc k))
+after-long (row o) n s k go h l = more-long o (go (afterRow o s) (suc k)) h (l (afterRow o s) (suc k))
 after-long (bad kind p) n s k go h l = tt
 
 lines-long : (ls : Lines) (s : State) (n k : ℕ) → Long (readFrom s n k ls)

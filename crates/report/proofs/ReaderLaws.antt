@@ -2,7 +2,7 @@
 use Prim.Native.Nat.{ℕ, suc, _≤_, _<_, _+_, _-_, _*_}
 use mathlib.Core.Path.{_≡_, refl, ap, sym, _∙_}
 use mathlib.Core.List.{List, [], _∷_, _++_, append-assoc, append-nil}
-use mathlib.Core.Bool.{Bool}
+use mathlib.Core.Bool.{Bool, false}
 use lib.Dec.{eqb, ltb, leb}
 use lib.ListN.{length, take, drop, getD, length-drop, length-take, length-append, drop-of-length-le, List·getD-append}
 use lib.Seq.{drop-drop, getD-append-add}
@@ -119,7 +119,7 @@ pub record Reading (t columns : List ℕ) (first room : ℕ) (x₀ x : Index) (a
   pub left : startsFrom begin 0 0 (lines t) ≡ spots ++ startsFrom (stateOf s columns) at k (lines (drop at t))
 
 pub read-start : {t columns : List ℕ} {first room : ℕ} {x : Index} → length columns ≡ elements → length t ≤ textLimit → Room x room
-    → Reading t columns first room x x 0 1 0 (record { need = Need.Version; columns = 0 })
+    → Reading t columns first room x x 0 1 0 (record { need = Need.Version; columns = 0; radar = false })
 read-start w h a = record {
   at-most = omega arith;
   short = h;
@@ -263,9 +263,9 @@ module _ {t columns : List ℕ} {first room : ℕ} {x₀ x : Index} {at number k
                 left = on-starts ∙ rw (n .is);
               }
 
-          noted-row : slot ≡ slotOf first room k → RowTaken t columns columns′ x y at (at + size) slot k s (stepAt t at (at + size) s columns k)
-              → Reading t columns′ first room x₀ y (at + size + 1) (number + 1) (k + 1) (record { need = Need.Nothing; columns = s .columns })
-          noted-row slot-is n =
+          noted-row : slot ≡ slotOf first room k → (radar : Bool) → RowTaken t columns columns′ x y at (at + size) slot k s (stepAt t at (at + size) s columns k) radar
+              → Reading t columns′ first room x₀ y (at + size + 1) (number + 1) (k + 1) (record { need = Need.Nothing; columns = s .columns; radar = radar })
+          noted-row slot-is radar n =
               let spot = startsOf (take (s .columns) columns) (fields (between t at (at + size))) at in
               record {
                 at-most = omega (arith, inside);
@@ -299,10 +299,10 @@ module _ {t columns : List ℕ} {first room : ℕ} {x₀ x : Index} {at number k
                     let w : i ≡ slot → ⊥ = λ z. slot-other first room k i a m (sym slot-is ∙ sym z) in
                     rw (List·getD-append (v .rows) (n .got ∷ []) [] (first + i) mr, List·getD-append (v .spots) (spot ∷ []) [] (first + i) ms)
                     (noted-kept (n .kept) i w (v .noted i a m)));
-                rest = on ∙ (rw (n .is, add-one number, add-one k, n .same) (prefix-snoc (v .rows) (n .got) _));
-                left = on-starts ∙ rw (n .is, add-one k, n .same, append-assoc);
+                rest = on ∙ (rw (n .is, n .kind, add-one number, add-one k, n .same) (prefix-snoc (v .rows) (n .got) _));
+                left = on-starts ∙ rw (n .is, n .kind, add-one k, n .same, append-assoc);
               }
 
-          pub read-row : slot ≡ slotOf first room k → r ≡ Taken.Noted
-              → Reading t columns′ first room x₀ y (at + size + 1) (number + 1) (k + 1) (record { need = Need.Nothing; columns = s .columns })
-          read-row slot-is e = noted-row slot-is (rw e at (took .case))
+          pub read-row : slot ≡ slotOf first room k → {radar : Bool} → r ≡ Taken.Noted radar
+              → Reading t columns′ first room x₀ y (at + size + 1) (number + 1) (k + 1) (record { need = Need.Nothing; columns = s .columns; radar = radar })
+          read-row slot-is {radar} e = noted-row slot-is radar (rw e at (took .case))

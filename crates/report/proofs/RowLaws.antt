@@ -22,9 +22,9 @@ use Rattle.refusal.specs.declared.Fault.{Fault}
 use Rattle.refusal.specs.declared.Fault.the-variants.{Sound, At}
 use Rattle.element.specs.Table.{elements}
 use Rattle.element.specs.Form.{faultOf}
-use Rattle.element.specs.Observation.{Observation, isPresent, setOf, isWgs84, isEarth, observationFault, setFault}
+use Rattle.element.specs.Observation.{Observation, isPresent, setOf, isWgs84, isEarth, isRadarSet, observationFault, setFault}
 use Rattle.element.specs.declared.form.Check.the-variants.{Fine, Bad}
-use Rattle.element.proofs.Sets.{set-mark, set-fault}
+use Rattle.element.proofs.Sets.{set-mark, set-fault, set-radar}
 use Rattle.report.specs.Report.{fieldFault, fill, rowOf, dataLine, bad, rowLimit}
 use Rattle.report.specs.Starts.{fillStarts, startsOf}
 use Rattle.report.specs.Index.{Index, lent, Shows, Noted}
@@ -389,10 +389,11 @@ module _ {t columns : List ℕ} {x : Index} {from till parts slot k : ℕ} (asks
           go : (f : Fault) → observationFault (rowOf columns (fields (between t from till))) ≡ f
               → RowCase t columns x (lent (set (x .sets) slot (m .present)) st′ ln′) from till slot k r
           go Sound q =
-              let r-is : r ≡ Taken.Noted = e ∙ ap takenBy (fault-is ∙ q) in
+              let r-is : r ≡ Taken.Noted (isRadarSet (m .present)) = e ∙ ap (λ (f : Fault). takenBy f (isRadarSet (m .present))) (fault-is ∙ q) in
               rw r-is (record {
                 got = rowOf columns (fields (between t from till));
                 is = rw (lt-ltb k rowLimit h, eq-eqb _ _ count-is, g .sound, q);
+                kind = ap (λ (y : Marks). isRadarSet (y .present)) (g .marks) ∙ set-radar (rowOf columns (fields (between t from till)));
                 few = h;
                 noted = record {
                   set-is = getD-set-same (x .sets) slot (m .present) 0 (asks .room .sets-room) ∙ ap (λ (y : Marks). y .present) (g .marks);
@@ -405,5 +406,5 @@ module _ {t columns : List ℕ} {x : Index} {from till parts slot k : ℕ} (asks
                 };
               })
           go (At kind p) q =
-              let r-is : r ≡ Taken.Refused kind p = e ∙ ap takenBy (fault-is ∙ q) in
+              let r-is : r ≡ Taken.Refused kind p = e ∙ ap (λ (f : Fault). takenBy f (isRadarSet (m .present))) (fault-is ∙ q) in
               rw r-is (rw (lt-ltb k rowLimit h, eq-eqb _ _ count-is, g .sound, q))

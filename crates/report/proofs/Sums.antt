@@ -1,9 +1,9 @@
--- Every sum of document 01 marked P is right, and every sum of document 02's order 2.
+-- Every sum of document 01 marked P is right, and every sum of document 02's orders 2 and 3.
 use mathlib.Core.Path.{refl}
 use Rattle.element.specs.Form.{hasValue}
-use Rattle.element.specs.Sums.{IsRight, AreRight, valueSums, pointValueSums}
-use Rattle.element.proofs.Sums.{value-sums-right, point-value-sums-right, right-append}
-use Rattle.report.specs.Sums.{sums, pointSums}
+use Rattle.element.specs.Sums.{IsRight, AreRight, valueSums, pointValueSums, radarValueSums}
+use Rattle.element.proofs.Sums.{value-sums-right, point-value-sums-right, radar-value-sums-right, right-append}
+use Rattle.report.specs.Sums.{sums, pointSums, radarSums}
 use Rattle.report.proofs.Computed.{reading}
 
 pub sums-right : AreRight sums
@@ -13,3 +13,8 @@ sums-right = (refl, (refl, (refl, right-append valueSums _ value-sums-right (ref
 pub point-sums-right : AreRight pointSums
 unfolding IsRight AreRight pointSums reading
 point-sums-right = right-append pointValueSums _ point-value-sums-right (refl, tt)
+
+pub radar-sums-right : AreRight radarSums
+unfolding IsRight AreRight radarSums reading
+radar-sums-right =
+    right-append radarValueSums _ radar-value-sums-right (refl, (refl, (refl, (refl, (refl, (refl, (refl, (refl, (refl, tt)))))))))

@@ -2,7 +2,7 @@
 use Prim.Native.Nat.{ℕ, suc, _+_, _-_, _*_, _^_, _≤_, _<_}
 use mathlib.Core.Path.{_≡_}
 use mathlib.Core.List.{List, []}
-use mathlib.Core.Bool.{Bool, cond, _&&_}
+use mathlib.Core.Bool.{Bool, false, cond, _&&_, Bool·beq}
 use lib.Bits.{bitOr}
 use lib.Dec.{eqb, leb, ltb}
 use lib.ListN.{length, take, drop, getD, set}
@@ -10,12 +10,12 @@ use Rattle.text.specs.Bytes.{bytes}
 use Rattle.text.specs.Part.{same}
 use Rattle.text.specs.Lines.{fields}
 use Rattle.refusal.specs.declared.Kind.{Kind}
-use Rattle.refusal.specs.declared.Kind.the-variants.{BlockUnfinished}
+use Rattle.refusal.specs.declared.Kind.the-variants.{BlockUnfinished, KindsMixed}
 use Rattle.refusal.specs.declared.Fault.{Fault}
 use Rattle.refusal.specs.declared.Fault.the-variants.{Sound, At}
 use Rattle.element.specs.Set.{has}
 use Rattle.element.specs.Table.{elements}
-use Rattle.element.specs.Observation.{Observation, isPresent, setOf, isWgs84, isEarth, setFault}
+use Rattle.element.specs.Observation.{Observation, isPresent, isRadar, setOf, isWgs84, isEarth, isRadarSet, setFault}
 use Rattle.report.specs.Report.{State, Step, next, row, bad, columnsFrom, fieldFault, rowOf, dataLine, other, step, read, rowLimit}
 use Rattle.report.specs.Starts.{startsOf, startsIn}
 use Rattle.report.specs.Answers.{shownOf, showingPaper, showingAnswer}
@@ -39,7 +39,7 @@ between t from till = take (till - from) (drop from t)
 
 -- The reader's state as the definition has it: the columns are the first of the list.
 abbrev pub stateOf : CodeState → List ℕ → State
-stateOf s columns = record { need = s .need; columns = take (s .columns) columns }
+stateOf s columns = record { need = s .need; columns = take (s .columns) columns; radar = s .radar }
 
 -- The columns of a state are elements.
 pub record Known (s : CodeState) (columns : List ℕ) : Type 0 where
@@ -55,7 +55,7 @@ pub record NamedAs (l columns : List ℕ) (s : CodeState) : Type 0 where
 
 abbrev pub NamedCase : List ℕ → List ℕ → Taken → Type 0
 NamedCase l columns (Taken.Next s) = NamedAs l columns s
-NamedCase l columns Taken.Noted = ⊥
+NamedCase l columns (Taken.Noted radar) = ⊥
 NamedCase l columns (Taken.Refused kind p) = columnsFrom [] (fields l) ≡ bad kind p
 
 pub record NamedIs (l columns : List ℕ) (r : Taken) : Type 0 where
@@ -78,14 +78,14 @@ markOn m e v =
     })
     m
 
--- What a fault makes of an observation that is noted.
-abbrev pub takenBy : Fault → Taken
-takenBy Sound = Taken.Noted
-takenBy (At kind p) = Taken.Refused kind p
+-- What a fault makes of an observation that is noted, which is radar or not.
+abbrev pub takenBy : Fault → Bool → Taken
+takenBy Sound radar = Taken.Noted radar
+takenBy (At kind p) radar = Taken.Refused kind p
 
--- What marks come to: an observation, unless it lacks what it must hold.
+-- What marks come to: an observation, unless it does not hold what it must.
 unfoldable pub heldBy : Marks → Taken
-heldBy m = takenBy (setFault (m .present) (m .wgs84) (m .earth))
+heldBy m = takenBy (setFault (m .present) (m .wgs84) (m .earth)) (isRadarSet (m .present))
 
 -- Outside a row's entries from base on nothing changed.
 abbrev pub Kept : List ℕ → List ℕ → ℕ → Type 0
@@ -141,16 +141,17 @@ pub record KeptBut (x y : Index) (slot : ℕ) : Type 0 where
   pub lengths-kept : Kept (x .lengths) (y .lengths) (slot * elements)
 
 -- The data line is an observation, noted at the slot.
-pub record RowGood (t columns : List ℕ) (x y : Index) (from till slot k : ℕ) : Type 0 where
+pub record RowGood (t columns : List ℕ) (x y : Index) (from till slot k : ℕ) (radar : Bool) : Type 0 where
   pub got : Observation
   pub is : dataLine columns k (between t from till) ≡ row got
+  pub kind : radar ≡ isRadar got
   pub few : k < rowLimit
   pub noted : Noted t y slot got (startsOf columns (fields (between t from till)) from)
   pub kept : KeptBut x y slot
 
 abbrev pub RowCase : List ℕ → List ℕ → Index → Index → ℕ → ℕ → ℕ → ℕ → Taken → Type 0
 RowCase t columns x y from till slot k (Taken.Next s) = ⊥
-RowCase t columns x y from till slot k Taken.Noted = RowGood t columns x y from till slot k
+RowCase t columns x y from till slot k (Taken.Noted radar) = RowGood t columns x y from till slot k radar
 RowCase t columns x y from till slot k (Taken.Refused kind p) = dataLine columns k (between t from till) ≡ bad kind p
 
 pub record RowIs (t columns : List ℕ) (x y : Index) (from till slot k : ℕ) (r : Taken) : Type 0 where
@@ -164,14 +165,24 @@ stepAt t from till s columns k = step (stateOf s columns) k (between t from till
 
 -- The same of a line that does not begin with `#`.
 abbrev pub otherAt : List ℕ → ℕ → ℕ → CodeState → List ℕ → ℕ → Step
-otherAt t from till s columns k = other (s .need) (take (s .columns) columns) k (between t from till)
+otherAt t from till s columns k = other (s .need) (take (s .columns) columns) (s .radar) k (between t from till)
 
 -- A right version line.
 abbrev pub openedTo : Need → Taken
-openedTo Need.Version = Taken.Next (record { need = Need.Columns; columns = 0 })
+openedTo Need.Version = Taken.Next (record { need = Need.Columns; columns = 0; radar = false })
 openedTo Need.Columns = Taken.Refused BlockUnfinished 0
 openedTo Need.Row = Taken.Refused BlockUnfinished 0
-openedTo Need.Nothing = Taken.Next (record { need = Need.Columns; columns = 0 })
+openedTo Need.Nothing = Taken.Next (record { need = Need.Columns; columns = 0; radar = false })
+
+-- An observation that is radar or not, after rows of its block that are radar or not.
+abbrev pub notedOfKind : Bool → Bool → Taken
+notedOfKind radar kind = cond (Bool·beq radar kind) (Taken.Noted kind) (Taken.Refused KindsMixed 0)
+
+-- What a data line comes to, after such rows.
+abbrev pub takenOfKind : Bool → Taken → Taken
+takenOfKind radar (Taken.Next s) = Taken.Next s
+takenOfKind radar (Taken.Noted kind) = notedOfKind radar kind
+takenOfKind radar (Taken.Refused kind p) = Taken.Refused kind p
 
 -- The line is a version line or a column line: the state after it; the index is as it was.
 pub record NextIs (columns : List ℕ) (x y : Index) (taken : Step) (s : CodeState) : Type 0 where
@@ -180,9 +191,10 @@ pub record NextIs (columns : List ℕ) (x y : Index) (taken : Step) (s : CodeSta
   pub same : y ≡ x
 
 -- The line is an observation, noted at the slot; the columns are as they were.
-pub record RowTaken (t columns columns′ : List ℕ) (x y : Index) (from till slot k : ℕ) (s : CodeState) (taken : Step) : Type 0 where
+pub record RowTaken (t columns columns′ : List ℕ) (x y : Index) (from till slot k : ℕ) (s : CodeState) (taken : Step) (radar : Bool) : Type 0 where
   pub got : Observation
   pub is : taken ≡ row got
+  pub kind : radar ≡ isRadar got
   pub few : k < rowLimit
   pub noted : Noted t y slot got (startsOf (take (s .columns) columns) (fields (between t from till)) from)
   pub kept : KeptBut x y slot
@@ -190,7 +202,7 @@ pub record RowTaken (t columns columns′ : List ℕ) (x y : Index) (from till s
 
 abbrev pub LineCase : List ℕ → List ℕ → List ℕ → Index → Index → ℕ → ℕ → ℕ → ℕ → CodeState → Step → Taken → Type 0
 LineCase t columns columns′ x y from till slot k old taken (Taken.Next s) = NextIs columns′ x y taken s
-LineCase t columns columns′ x y from till slot k old taken Taken.Noted = RowTaken t columns columns′ x y from till slot k old taken
+LineCase t columns columns′ x y from till slot k old taken (Taken.Noted radar) = RowTaken t columns columns′ x y from till slot k old taken radar
 LineCase t columns columns′ x y from till slot k old taken (Taken.Refused kind p) = taken ≡ bad kind p
 
 pub record TookLine (t columns columns′ : List ℕ) (x y : Index) (from till slot k : ℕ) (old : CodeState) (taken : Step) (r : Taken) : Type 0 where

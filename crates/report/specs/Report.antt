@@ -1,20 +1,20 @@
--- What a report is, what it means and how it is refused: document 01's line rules, in its order of refusals.
+-- What a report is, what it means and how it is refused: document 01's line rules, in its order of refusals, and since order 3 a block's kind.
 use Prim.Native.Nat.{ℕ, suc}
 use mathlib.Core.List.{List, [], _∷_, _++_}
-use mathlib.Core.Bool.{Bool, true, false, cond, _||_}
+use mathlib.Core.Bool.{Bool, true, false, cond, _||_, Bool·beq}
 use lib.ListN.{length, set, replicate}
 use lib.Dec.{eqb, ltb}
 use Rattle.text.specs.Bytes.{bytes}
 use Rattle.text.specs.Part.{same}
 use Rattle.text.specs.Lines.{Lines, end, cut, line, lines, fields, trim, printable}
 use Rattle.refusal.specs.declared.Kind.{Kind}
-use Rattle.refusal.specs.declared.Kind.the-variants.{TextTooLong, NoLineEnd, WrongByte, VersionExpected, BlockUnfinished, UnknownColumn, ColumnTwice, TooManyRows, FieldCountDiffers}
+use Rattle.refusal.specs.declared.Kind.the-variants.{TextTooLong, NoLineEnd, WrongByte, VersionExpected, BlockUnfinished, UnknownColumn, ColumnTwice, TooManyRows, FieldCountDiffers, KindsMixed}
 use Rattle.refusal.specs.declared.Fault.{Fault}
 use Rattle.refusal.specs.declared.Fault.the-variants.{Sound, At}
 use Rattle.refusal.specs.declared.Refusal.{Refusal}
 use Rattle.element.specs.Table.{elements, indexOf}
 use Rattle.element.specs.Form.{faultOf}
-use Rattle.element.specs.Observation.{Observation, isPresent, observationFault}
+use Rattle.element.specs.Observation.{Observation, isPresent, isRadar, observationFault}
 use Rattle.element.specs.declared.form.Check.{Check}
 use Rattle.element.specs.declared.form.Check.the-variants.{Fine, Bad}
 use Rattle.report.specs.declared.state.Need.{Need}
@@ -37,10 +37,12 @@ abbrev pub isHash : List ℕ → Bool
 isHash [] = false
 isHash (b ∷ t) = eqb b 35
 
--- Where reading stands in a block: what the block still needs, and the elements that its columns name, by index.
+-- Where reading stands in a block: what the block still needs, the elements that its columns name, by index, and, where it has a row, whether
+-- its rows are radar.
 pub record State : Type 0 where
   pub need : Need
   pub columns : List ℕ
+  pub radar : Bool
 
 -- What one line comes to: the state after it; an observation; or a refusal's kind and place.
 pub data Step : Type 0 where
@@ -55,7 +57,7 @@ member e (c ∷ cs) = eqb c e || member e cs
 
 -- A column line, field by field, after the columns seen: 6 unknown column name, 7 column named twice; place is the column's position.
 unfoldable pub columnsFrom : List ℕ → List (List ℕ) → Step
-columnsFrom seen [] = next (record { need = Need.Row; columns = seen })
+columnsFrom seen [] = next (record { need = Need.Row; columns = seen; radar = false })
 columnsFrom seen (f ∷ fs) =
     cond (ltb (indexOf (trim f)) elements)
     (cond (member (indexOf (trim f)) seen)
@@ -90,7 +92,7 @@ rowUnless (At k p) g o = bad k p
 rowUnless Sound (At k p) o = bad k p
 rowUnless Sound Sound o = row o
 
--- A data line with k before it in the text: 14, 18, then field by field 8, 9, 10, then 11, 12, 13.
+-- A data line with k before it in the text: 14, 18, then field by field 8, 9, 10, then 22, 11, 12, 13.
 unfoldable pub dataLine : List ℕ → ℕ → List ℕ → Step
 dataLine columns k l =
     cond (ltb k rowLimit)
@@ -99,19 +101,25 @@ dataLine columns k l =
     (bad FieldCountDiffers 0))
     (bad TooManyRows 0)
 
+-- A block holds one kind: a row of another kind than the rows before it in its block is 21.
+abbrev pub ofKind : Bool → Step → Step
+ofKind radar (next s) = next s
+ofKind radar (row o) = cond (Bool·beq radar (isRadar o)) (row o) (bad KindsMixed 0)
+ofKind radar (bad kind p) = bad kind p
+
 -- A right version line: 5 where the block before lacks its column or data line; otherwise a block begins.
 abbrev pub opened : Need → Step
-opened Need.Version = next (record { need = Need.Columns; columns = [] })
+opened Need.Version = next (record { need = Need.Columns; columns = []; radar = false })
 opened Need.Columns = bad BlockUnfinished 0
 opened Need.Row = bad BlockUnfinished 0
-opened Need.Nothing = next (record { need = Need.Columns; columns = [] })
+opened Need.Nothing = next (record { need = Need.Columns; columns = []; radar = false })
 
--- A line that does not begin with `#`: 4 where a version line is due, else the column line or a data line.
-abbrev pub other : Need → List ℕ → ℕ → List ℕ → Step
-other Need.Version columns k l = bad VersionExpected 0
-other Need.Columns columns k l = columnsFrom [] (fields l)
-other Need.Row columns k l = dataLine columns k l
-other Need.Nothing columns k l = dataLine columns k l
+-- A line that does not begin with `#`: 4 where a version line is due, else the column line or a data line; 21 last, after a first row.
+abbrev pub other : Need → List ℕ → Bool → ℕ → List ℕ → Step
+other Need.Version columns radar k l = bad VersionExpected 0
+other Need.Columns columns radar k l = columnsFrom [] (fields l)
+other Need.Row columns radar k l = dataLine columns k l
+other Need.Nothing columns radar k l = ofKind radar (dataLine columns k l)
 
 -- A line, with k data lines before it: 3, then 4 for a `#` line that isn't the version line, then by what it is.
 unfoldable pub step : State → ℕ → List ℕ → Step
@@ -119,7 +127,7 @@ step s k l =
     cond (printable l)
     (cond (isHash l)
     (cond (same l versionLine) (opened (s .need)) (bad VersionExpected 0))
-    (other (s .need) (s .columns) k l))
+    (other (s .need) (s .columns) (s .radar) k l))
     (bad WrongByte 0)
 
 -- What reading comes to: the observations in order, or the refusal.
@@ -142,14 +150,14 @@ atEnd Need.Columns n = refuse BlockUnfinished n 0
 atEnd Need.Row n = refuse BlockUnfinished n 0
 atEnd Need.Nothing n = accepted []
 
--- The state after a data line.
-abbrev pub afterRow : State → State
-afterRow s = record { need = Need.Nothing; columns = s .columns }
+-- The state after a data line: its block has a row, of that kind.
+abbrev pub afterRow : Observation → State → State
+afterRow o s = record { need = Need.Nothing; columns = s .columns; radar = isRadar o }
 
 -- After line n: the text goes on in the state that the line leaves.
 abbrev pub after : Step → ℕ → State → ℕ → (State → ℕ → Outcome) → Outcome
 after (next s) n old k go = go s k
-after (row o) n old k go = more o (go (afterRow old) (suc k))
+after (row o) n old k go = more o (go (afterRow o old) (suc k))
 after (bad kind p) n old k go = refuse kind n p
 
 -- A text's lines from line n on, with k data lines before it: 2 for a line without LF.
@@ -160,7 +168,7 @@ readFrom s n k (line l ls) = after (step s k l) n s k (λ s′ k′. readFrom s�
 
 -- Where a text begins: a version line is due.
 abbrev pub begin : State
-begin = record { need = Need.Version; columns = [] }
+begin = record { need = Need.Version; columns = []; radar = false }
 
 -- A report: 1, then line by line. The empty text is a report of no observations.
 unfoldable pub read : List ℕ → Outcome

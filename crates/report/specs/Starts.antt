@@ -21,7 +21,7 @@ startsOf columns fs at = fillStarts columns fs at (replicate elements 0)
 -- After a line that begins at a place: an observation's starts are put before those of the text that goes on.
 abbrev pub startsAfter : Step → State → ℕ → ℕ → List ℕ → (State → ℕ → List (List ℕ)) → List (List ℕ)
 startsAfter (next s) old k at l go = go s k
-startsAfter (row o) old k at l go = startsOf (old .columns) (fields l) at ∷ go (afterRow old) (suc k)
+startsAfter (row o) old k at l go = startsOf (old .columns) (fields l) at ∷ go (afterRow o old) (suc k)
 startsAfter (bad kind p) old k at l go = []
 
 -- The starts of each observation's values, from a place of the text on.

@@ -3,6 +3,8 @@ use crate::ROW_LIMIT;
 use crate::state::Taken;
 use element::ELEMENTS;
 use element::form::Check;
+use element::observation::is_radar;
+use element::observation::observation_fault;
 use refusal::Fault;
 use refusal::Kind;
 ghost use mathlib.Core.Path.{_≡_};
@@ -62,13 +64,13 @@ pub(crate) fn data_line(
     }
 }
 
-// What a data line comes to whose fields are right: an observation, unless it lacks what it must hold.
+// What a data line comes to whose fields are right: an observation, unless it does not hold what it must.
 fn held(marks: Marks) -> Taken
     ensures { λ r. ⌜ r ≡ heldBy marks ⌝ }
 {
-    let fault = element::observation::observation_fault(marks.present, marks.wgs84, marks.earth);
+    let fault = observation_fault(marks.present, marks.wgs84, marks.earth);
     match fault {
-        Fault::Sound => Taken::Noted,
+        Fault::Sound => Taken::Noted(is_radar(marks.present)),
         Fault::At(kind, place) => Taken::Refused(kind, place),
     }
 }

@@ -22,16 +22,25 @@ pub(crate) fn print_costs(report: &[u8], packed: &[u8], sets: &[u64], sizes: &[u
         as_cut,
         b"\n",
     );
-    print::between(
-        b"   in one block: ",
-        account::account(sets, sizes).bytes,
-        b"\n",
-    );
+    print_one_block(sets, sizes);
     print::between(
         b"   with a block at every change of columns: ",
         by_change,
         b"\n",
     );
+}
+
+// Prints what all rows would cost in one block, which only rows of one kind can share.
+fn print_one_block(sets: &[u64], sizes: &[u32]) {
+    if account::rows_of_kind(sets) < sets.len() {
+        print::bytes(b"   in one block: not possible, since a block holds one kind\n");
+    } else {
+        print::between(
+            b"   in one block: ",
+            account::account(sets, sizes).bytes,
+            b"\n",
+        );
+    }
 }
 
 // Prints the account of each block of a text that holds the rows.

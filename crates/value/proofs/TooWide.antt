@@ -1,4 +1,4 @@
--- Which forms never give 8: permID, provID, artSat, mode, sys, obsTime, ra and dec, for any text.
+-- Which forms never give 8: permID, provID, artSat, mode, sys, obsTime, ra, dec and com, for any text.
 use Prim.Native.Nat.{ℕ}
 use mathlib.Core.Path.{_≡_}
 use mathlib.Core.Bool.{Bool, true, false, cond, _&&_}
@@ -15,7 +15,7 @@ use Rattle.value.specs.Designation.{isCapitals, isNumberedComet, permID,
 use Rattle.value.specs.Numeral.{isCount, part}
 use Rattle.value.specs.Sign.{bare}
 use Rattle.value.specs.Time.{isTime, isMoment, dayOf, microseconds, obsTime}
-use Rattle.value.specs.Word.{isOneOf, modes, mode, systems, system}
+use Rattle.value.specs.Word.{isOneOf, modes, mode, systems, system, flags, flag}
 use Rattle.value.specs.declared.Value.{Value}
 use Rattle.value.specs.declared.Value.the-variants.{Bad, NoValue, Time, Angle}
 
@@ -71,6 +71,10 @@ module _ (text : List ℕ) where
   pub system-narrow : Narrow (system text)
   unfolding system
   system-narrow = either (isOneOf systems text) _ _ no-value out-of-range
+
+  pub flag-narrow : Narrow (flag text)
+  unfolding flag
+  flag-narrow = either (isOneOf flags text) _ _ no-value out-of-range
 
   pub obsTime-narrow : Narrow (obsTime text)
   unfolding obsTime

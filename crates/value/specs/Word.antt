@@ -1,4 +1,4 @@
--- Words out of a list. A mode or sys word outside the list is 10.
+-- Words out of a list. A mode or sys word outside the list is 10, and so is a flag other than 0 or 1.
 use Prim.Native.Nat.{ℕ}
 use mathlib.Core.Bool.{Bool, false, cond, _||_}
 use mathlib.Core.List.{List, [], _∷_}
@@ -37,3 +37,11 @@ systems = bytes "WGS84" ∷ bytes "ITRF" ∷ bytes "IAU" ∷ bytes "ICRF_AU" ∷
 -- WGS84 ITRF IAU ICRF_AU ICRF_KM.
 unfoldable pub system : List ℕ → Value
 system text = cond (isOneOf systems text) NoValue (Bad OutOfRange)
+
+-- The flags.
+abbrev pub flags : List (List ℕ)
+flags = bytes "0" ∷ bytes "1" ∷ []
+
+-- 0 or 1, without a value.
+unfoldable pub flag : List ℕ → Value
+flag text = cond (isOneOf flags text) NoValue (Bad OutOfRange)

@@ -7,8 +7,8 @@ use Rattle.cuts.proofs.shortest.Tie as tie
 is-ready-requires : tie.Need-is-ready-requires
 is-ready-requires c κs = search (needs, promise-needs)
 
-plan-ready-requires : tie.Need-plan-ready-requires
-plan-ready-requires c κs = search (needs, promise-needs)
+plan-stretches-requires : tie.Need-plan-stretches-requires
+plan-stretches-requires c κs = search (needs, promise-needs)
 
 same-length : tie.Need-same-length
 same-length c = search (needs, promise-needs)
@@ -25,4 +25,10 @@ returns-2 c = search (needs, promise-needs)
 pub shortest-spec : {M : Type 1} → statement M
 shortest-spec =
     tie.close
-    (tie.spec is-ready-requires plan-ready-requires same-length returns same-length-2 returns-2)
+    (tie.spec
+    is-ready-requires
+    plan-stretches-requires
+    same-length
+    returns
+    same-length-2
+    returns-2)

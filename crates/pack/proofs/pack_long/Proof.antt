@@ -19,8 +19,11 @@ slice-aggregate-pack-with-4 c = search needs
 slice-aggregate-pack-with-5 : tie.Need-slice-aggregate-pack-with-5
 slice-aggregate-pack-with-5 c = search needs
 
+slice-aggregate-pack-with-6 : tie.Need-slice-aggregate-pack-with-6
+slice-aggregate-pack-with-6 c = search needs
+
 pack-with-requires : tie.Need-pack-with-requires
-pack-with-requires c κs = let few = rows-few (c .before .before .before .before .before .before .before .before .args .report .now) in search needs
+pack-with-requires c κs = let few = rows-few (c .before .before .before .before .before .before .before .before .before .args .report .now) in search needs
 
 same-length : tie.Need-same-length
 same-length c = search needs
@@ -37,6 +40,7 @@ pack-long-spec =
     slice-aggregate-pack-with-3
     slice-aggregate-pack-with-4
     slice-aggregate-pack-with-5
+    slice-aggregate-pack-with-6
     pack-with-requires
     same-length
     returns)

@@ -25,22 +25,23 @@ same-length-4 c = search needs
 same-length-5 : tie.Need-same-length-5
 same-length-5 c = search needs
 
+same-length-6 : tie.Need-same-length-6
+same-length-6 c = search needs
+
 returns : tie.Need-returns
 returns c =
-    let plan = c .before .before .before .before .before .before .before .before .before .before .before .before .before .plan in
-    planned-refused _ (plan .ensures) (c .before .planned .given .1)
+    let plan = c .before .before .before .before .before .before .before .before .before .before .before .before .before .before .before .plan in
+    let planned = c .before .planned in
+    planned-refused _ (plan .ensures) (planned .given .1)
 
 enum-known-planned-2 : tie.Need-enum-known-planned-2
 enum-known-planned-2 c = search needs
 
 write-plan-requires : tie.Need-write-plan-requires
 write-plan-requires c κs =
-    let plan = c .before .before .before .before .before .before .before .before .before .before .before .before .before .before .before .before .before .before .plan in
+    let plan = c .before .before .before .before .before .before .before .before .before .before .before .before .before .before .before .before .before .before .before .before .plan in
     let planned2 = c .before .before .before .before .before .before .planned2 in
     planned-cut (plan .ensures) (planned2 .given .1)
-
-same-length-6 : tie.Need-same-length-6
-same-length-6 c = search needs
 
 same-length-7 : tie.Need-same-length-7
 same-length-7 c = search needs
@@ -57,6 +58,12 @@ same-length-10 c = search needs
 same-length-11 : tie.Need-same-length-11
 same-length-11 c = search needs
 
+same-length-12 : tie.Need-same-length-12
+same-length-12 c = search needs
+
+same-length-13 : tie.Need-same-length-13
+same-length-13 c = search needs
+
 returns-2 : tie.Need-returns-2
 returns-2 c = search needs
 
@@ -71,13 +78,15 @@ pack-with-spec =
     same-length-3
     same-length-4
     same-length-5
+    same-length-6
     returns
     enum-known-planned-2
     write-plan-requires
-    same-length-6
     same-length-7
     same-length-8
     same-length-9
     same-length-10
     same-length-11
+    same-length-12
+    same-length-13
     returns-2)

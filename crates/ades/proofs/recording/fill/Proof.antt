@@ -24,8 +24,8 @@ write-requires c κs = search needs
 enum-known-refusal : tie.Need-enum-known-refusal Inv-loop μ-loop
 enum-known-refusal c = search needs
 
-refused-requires : tie.Need-refused-requires Inv-loop μ-loop
-refused-requires c κs = search needs
+print-unwritten-requires : tie.Need-print-unwritten-requires Inv-loop μ-loop
+print-unwritten-requires c κs = search needs
 
 same-length : tie.Need-same-length Inv-loop μ-loop
 same-length c = search needs
@@ -58,7 +58,7 @@ fill-spec =
     add-observation
     write-requires
     enum-known-refusal
-    refused-requires
+    print-unwritten-requires
     same-length
     returns
     enum-told

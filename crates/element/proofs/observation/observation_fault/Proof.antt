@@ -1,54 +1,28 @@
 -- `element::observation::observation_fault` meets its contract.
 use borrow.Author.Needs.{needs}
-use borrow.Author.Tests.{eq-eqb, ne-eqb}
 use mathlib.Core.Path.{_∙_, sym}
 use Rattle.element.proofs.observation.observation_fault.Statement.{statement}
-use Rattle.element.specs.Observation.{faultIn, setFault}
+use Rattle.element.specs.Observation.{faultIn, isRadarSet, setFault}
 use Rattle.element.proofs.observation.observation_fault.Tie as tie
 
-slice-aggregate-holds-any : tie.Need-slice-aggregate-holds-any
-slice-aggregate-holds-any c = search needs
+is-radar-requires : tie.Need-is-radar-requires
+is-radar-requires c κs = search needs
 
-holds-any-requires : tie.Need-holds-any-requires
-holds-any-requires c κs = search needs
-
-slice-aggregate-first-missing : tie.Need-slice-aggregate-first-missing
-slice-aggregate-first-missing c = search needs
-
-first-missing-requires : tie.Need-first-missing-requires
-first-missing-requires c κs = search needs
-
-group-fault-requires : tie.Need-group-fault-requires
-group-fault-requires c κs = search needs
+radar-fault-requires : tie.Need-radar-fault-requires
+radar-fault-requires c κs = search needs
 
 returns : tie.Need-returns
-unfolding setFault faultIn
-returns c =
-    let holds-any = c .before .before .before .before .before .holds-any in
-    let if1 = c .before .before .before .before .if1 in
-    let first-missing = c .before .before .first-missing in
-    rw (c .group-fault .ensures, sym (holds-any .ensures) ∙ if1 .taken, sym (first-missing .ensures), eq-eqb _ _ (c .before .if2 .taken))
+unfolding setFault faultIn isRadarSet
+returns c = rw (c .radar-fault .ensures, sym (c .before .before .is-radar .ensures) ∙ c .before .if1 .taken)
+
+optical-fault-requires : tie.Need-optical-fault-requires
+optical-fault-requires c κs = search needs
 
 returns-2 : tie.Need-returns-2
-unfolding setFault faultIn
-returns-2 c =
-    let holds-any = c .before .before .before .before .holds-any in
-    let if1 = c .before .before .before .if1 in
-    rw (sym (holds-any .ensures) ∙ if1 .taken, sym (c .before .first-missing .ensures), ne-eqb _ _ (c .if2 .left))
-
-returns-3 : tie.Need-returns-3
-unfolding setFault faultIn
-returns-3 c = rw (sym (c .before .holds-any .ensures) ∙ c .if1 .left)
+unfolding setFault faultIn isRadarSet
+returns-2 c = rw (c .optical-fault .ensures, sym (c .before .before .is-radar .ensures) ∙ c .before .if1 .left)
 
 pub observation-fault-spec : {M : Type 1} → statement M
 observation-fault-spec =
     tie.close
-    (tie.spec
-    slice-aggregate-holds-any
-    holds-any-requires
-    slice-aggregate-first-missing
-    first-missing-requires
-    group-fault-requires
-    returns
-    returns-2
-    returns-3)
+    (tie.spec is-radar-requires radar-fault-requires returns optical-fault-requires returns-2)

@@ -126,6 +126,15 @@ check-declination-requires c κs = search needs
 check-of-requires-13 : tie.Need-check-of-requires-13
 check-of-requires-13 c κs = search needs
 
+enum-told-12 : tie.Need-enum-told-12
+enum-told-12 c = search needs
+
+flag-requires : tie.Need-flag-requires
+flag-requires c κs = search needs
+
+check-of-requires-14 : tie.Need-check-of-requires-14
+check-of-requires-14 c κs = search needs
+
 returns : tie.Need-returns
 returns c = rw (c .enum-told .given .1)
 
@@ -172,6 +181,9 @@ returns-13 c = rw (c .before .before .enum-told10 .given .1, c .check-of12 .ensu
 returns-14 : tie.Need-returns-14
 returns-14 c = rw (c .before .before .enum-told11 .given .1, c .check-of13 .ensures, c .before .check-declination .ensures) (less-check (declination (c .before .before .before .before .before .args .text .now)))
 
+returns-15 : tie.Need-returns-15
+returns-15 c = rw (c .before .before .enum-told12 .given .1, c .check-of14 .ensures, c .before .flag .ensures)
+
 pub check-in-spec : {M : Type 1} → statement M
 check-in-spec =
     tie.close
@@ -216,6 +228,9 @@ check-in-spec =
     enum-told-11
     check-declination-requires
     check-of-requires-13
+    enum-told-12
+    flag-requires
+    check-of-requires-14
     returns
     returns-2
     returns-3
@@ -229,4 +244,5 @@ check-in-spec =
     returns-11
     returns-12
     returns-13
-    returns-14)
+    returns-14
+    returns-15)

@@ -84,6 +84,12 @@ enum-told-11 c = search needs
 declination-requires : tie.Need-declination-requires
 declination-requires c κs = search needs
 
+enum-told-12 : tie.Need-enum-told-12
+enum-told-12 c = search needs
+
+flag-requires : tie.Need-flag-requires
+flag-requires c κs = search needs
+
 returns : tie.Need-returns
 returns c = rw (c .enum-told .given .1)
 
@@ -126,6 +132,9 @@ returns-13 c = rw (c .before .enum-told10 .given .1, c .right-ascension .ensures
 returns-14 : tie.Need-returns-14
 returns-14 c = rw (c .before .enum-told11 .given .1, c .declination .ensures)
 
+returns-15 : tie.Need-returns-15
+returns-15 c = rw (c .before .enum-told12 .given .1, c .flag .ensures)
+
 pub value-in-spec : {M : Type 1} → statement M
 value-in-spec =
     tie.close
@@ -157,6 +166,8 @@ value-in-spec =
     right-ascension-requires
     enum-told-11
     declination-requires
+    enum-told-12
+    flag-requires
     returns
     returns-2
     returns-3
@@ -170,4 +181,5 @@ value-in-spec =
     returns-11
     returns-12
     returns-13
-    returns-14)
+    returns-14
+    returns-15)

@@ -91,7 +91,31 @@ returns-29 : tie.Need-returns-29
 returns-29 c = rw (c .match .keys29)
 
 returns-30 : tie.Need-returns-30
-returns-30 c = form-past (c .before .args .index) (c .match .rest)
+returns-30 c = rw (c .match .keys30)
+
+returns-31 : tie.Need-returns-31
+returns-31 c = rw (c .match .keys31)
+
+returns-32 : tie.Need-returns-32
+returns-32 c = rw (c .match .keys32)
+
+returns-33 : tie.Need-returns-33
+returns-33 c = rw (c .match .keys33)
+
+returns-34 : tie.Need-returns-34
+returns-34 c = rw (c .match .keys34)
+
+returns-35 : tie.Need-returns-35
+returns-35 c = rw (c .match .keys35)
+
+returns-36 : tie.Need-returns-36
+returns-36 c = rw (c .match .keys36)
+
+returns-37 : tie.Need-returns-37
+returns-37 c = rw (c .match .keys37)
+
+returns-38 : tie.Need-returns-38
+returns-38 c = form-past (c .before .args .index) (c .match .rest)
 
 pub form-of-spec : {M : Type 1} → statement M
 form-of-spec =
@@ -126,4 +150,12 @@ form-of-spec =
     returns-27
     returns-28
     returns-29
-    returns-30)
+    returns-30
+    returns-31
+    returns-32
+    returns-33
+    returns-34
+    returns-35
+    returns-36
+    returns-37
+    returns-38)

@@ -22,16 +22,17 @@ same-length-3 c = search needs
 returns : tie.Need-returns
 returns c =
     let index = c .before .before .before .before .before .before .before .before .before .index in
-    plan-refused _ (index .ensures) (c .before .checked .given .1)
+    let checked = c .before .checked in
+    plan-refused _ (index .ensures) (checked .given .1)
 
 enum-known-checked-2 : tie.Need-enum-known-checked-2
 enum-known-checked-2 c = search needs
 
 cut-rows-requires : tie.Need-cut-rows-requires
 cut-rows-requires c κs =
-    let pre = c .before .before .before .before .before .before .before .before .before .before .before .before .before .before .before .before .before .before .before .before .before .before .before .pre in
-    let index = c .before .before .before .before .before .before .before .before .before .before .before .before .before .index in
-    let checked2 = c .before .before .before .before .before .checked2 in
+    let pre = c .before .before .before .before .before .before .before .before .before .before .before .before .before .before .before .before .before .before .before .before .before .before .before .before .before .pre in
+    let index = c .before .before .before .before .before .before .before .before .before .before .before .before .before .before .index in
+    let checked2 = c .before .before .before .before .before .before .checked2 in
     rows-ask pre (index .ensures) (index .kept .1 .1 .0) (index .kept .1 .1 .1 .0) (index .kept .1 .1 .1 .1 .0) (checked2 .given .1)
 
 same-length-4 : tie.Need-same-length-4
@@ -49,12 +50,15 @@ same-length-7 c = search needs
 same-length-8 : tie.Need-same-length-8
 same-length-8 c = search needs
 
+same-length-9 : tie.Need-same-length-9
+same-length-9 c = search needs
+
 returns-2 : tie.Need-returns-2
 returns-2 c =
-    let pre = c .before .before .before .before .before .before .before .before .before .before .before .before .before .before .before .before .before .before .before .before .before .before .before .before .before .before .before .before .pre in
-    let index = c .before .before .before .before .before .before .before .before .before .before .before .before .before .before .before .before .before .before .index in
-    let checked2 = c .before .before .before .before .before .before .before .before .before .before .checked2 in
-    let cut-rows = c .before .before .before .before .cut-rows in
+    let pre = c .before .before .before .before .before .before .before .before .before .before .before .before .before .before .before .before .before .before .before .before .before .before .before .before .before .before .before .before .before .before .before .before .pre in
+    let index = c .before .before .before .before .before .before .before .before .before .before .before .before .before .before .before .before .before .before .before .before .before .index in
+    let checked2 = c .before .before .before .before .before .before .before .before .before .before .before .before .before .checked2 in
+    let cut-rows = c .before .before .before .before .before .before .cut-rows in
     plan-cut pre (index .ensures) (index .kept .1 .1 .0) (index .kept .1 .1 .1 .0) (index .kept .1 .1 .1 .1 .0) (checked2 .given .1) (cut-rows .ensures)
 
 pub plan-spec : {M : Type 1} → statement M
@@ -74,4 +78,5 @@ plan-spec =
     same-length-6
     same-length-7
     same-length-8
+    same-length-9
     returns-2)

@@ -80,11 +80,11 @@ take-line-requires c κs =
 enum-known-taken : tie.Need-enum-known-taken Inv-loop μ-loop
 enum-known-taken c = search needs
 
-enum-told : tie.Need-enum-told Inv-loop μ-loop
-enum-told c = search needs
-
 enum-known-taken-2 : tie.Need-enum-known-taken-2 Inv-loop μ-loop
 enum-known-taken-2 c = search needs
+
+enum-known-taken-3 : tie.Need-enum-known-taken-3 Inv-loop μ-loop
+enum-known-taken-3 c = search needs
 
 refused-requires-3 : tie.Need-refused-requires-3 Inv-loop μ-loop
 refused-requires-3 c κs = search needs
@@ -99,14 +99,7 @@ same-length-6 : tie.Need-same-length-6 Inv-loop μ-loop
 same-length-6 c = search needs
 
 returns-3 : tie.Need-returns-3 Inv-loop μ-loop
-returns-3 c =
-    let loop = c .before .before .before .before .before .before .before .before .before .before .before .before .before .before .before .before .before .before .before .before .before .before .loop in
-    let loop-test = c .before .before .before .before .before .before .before .before .before .before .before .before .before .before .before .before .before .before .before .before .before .loop-test in
-    let scan = c .before .before .before .before .before .before .before .before .before .before .before .before .before .before .before .before .before .before .before .scan in
-    let if2 = c .before .before .before .before .before .before .before .before .before .before .before .before .before .before .before .before .before .if2 in
-    let take-line = c .before .before .before .before .before .before .before .before .before .before .before .take-line in
-    let taken2 = c .before .before .taken2 in
-    read-bad (loop .inv) (loop-test .taken) (scan .ensures) (if2 .left) (take-line .ensures) (taken2 .given .1) (c .refused3 .ensures)
+returns-3 c = read-bad (c .before .before .before .before .before .before .before .before .before .before .before .before .before .before .before .before .before .before .before .before .before .before .loop .inv) (c .before .before .before .before .before .before .before .before .before .before .before .before .before .before .before .before .before .before .before .before .before .loop-test .taken) (c .before .before .before .before .before .before .before .before .before .before .before .before .before .before .before .before .before .before .before .scan .ensures) (c .before .before .before .before .before .before .before .before .before .before .before .before .before .before .before .before .before .if2 .left) (c .before .before .before .before .before .before .before .before .before .before .before .take-line .ensures) (c .before .before .taken3 .given .1) (c .refused3 .ensures)
 
 loop-less : tie.Need-loop-less Inv-loop μ-loop
 loop-less c =
@@ -126,22 +119,10 @@ loop-again c =
     read-next (loop .inv) (loop-test .taken) (scan .ensures) (if2 .left) (take-line .ensures) (take-line .kept .1 .1 .1 .1 .1 .1 .0) (take-line .kept .1 .1 .1 .1 .1 .1 .1 .0) (take-line .kept .1 .1 .1 .1 .1 .1 .1 .1 .0) (take-line .kept .1 .1 .1 .1 .1 .1 .1 .1 .1 .0) (taken .given .1)
 
 loop-less-2 : tie.Need-loop-less-2 Inv-loop μ-loop
-loop-less-2 c =
-    let loop = c .before .before .before .before .before .before .before .before .before .before .before .before .before .before .before .before .before .before .before .before .loop in
-    let loop-test = c .before .before .before .before .before .before .before .before .before .before .before .before .before .before .before .before .before .before .before .loop-test in
-    let scan = c .before .before .before .before .before .before .before .before .before .before .before .before .before .before .before .before .before .scan in
-    omega (arith, line-fits (loop .inv) (loop-test .taken) (scan .ensures), loop-test .taken)
+loop-less-2 c = omega (arith, line-fits (c .before .before .before .before .before .before .before .before .before .before .before .before .before .before .before .before .before .before .before .before .before .loop .inv) (c .before .before .before .before .before .before .before .before .before .before .before .before .before .before .before .before .before .before .before .before .loop-test .taken) (c .before .before .before .before .before .before .before .before .before .before .before .before .before .before .before .before .before .before .scan .ensures), c .before .before .before .before .before .before .before .before .before .before .before .before .before .before .before .before .before .before .before .before .loop-test .taken)
 
 loop-again-2 : tie.Need-loop-again-2 Inv-loop μ-loop
-loop-again-2 c =
-    let loop = c .before .before .before .before .before .before .before .before .before .before .before .before .before .before .before .before .before .before .before .before .loop in
-    let loop-test = c .before .before .before .before .before .before .before .before .before .before .before .before .before .before .before .before .before .before .before .loop-test in
-    let scan = c .before .before .before .before .before .before .before .before .before .before .before .before .before .before .before .before .before .scan in
-    let if2 = c .before .before .before .before .before .before .before .before .before .before .before .before .before .before .before .if2 in
-    let take-line = c .before .before .before .before .before .before .before .before .before .take-line in
-    let slot-of = c .before .before .before .before .before .before .before .before .before .before .before .before .before .before .slot-of in
-    read-row (loop .inv) (loop-test .taken) (scan .ensures) (if2 .left) (take-line .ensures)
-    (take-line .kept .1 .1 .1 .1 .1 .1 .0) (take-line .kept .1 .1 .1 .1 .1 .1 .1 .0) (take-line .kept .1 .1 .1 .1 .1 .1 .1 .1 .0) (take-line .kept .1 .1 .1 .1 .1 .1 .1 .1 .1 .0) (slot-of .ensures .0) (c .enum-told .given .1)
+loop-again-2 c = read-row (c .before .before .before .before .before .before .before .before .before .before .before .before .before .before .before .before .before .before .before .before .before .loop .inv) (c .before .before .before .before .before .before .before .before .before .before .before .before .before .before .before .before .before .before .before .before .loop-test .taken) (c .before .before .before .before .before .before .before .before .before .before .before .before .before .before .before .before .before .before .scan .ensures) (c .before .before .before .before .before .before .before .before .before .before .before .before .before .before .before .before .if2 .left) (c .before .before .before .before .before .before .before .before .before .before .take-line .ensures) (c .before .before .before .before .before .before .before .before .before .before .take-line .kept .1 .1 .1 .1 .1 .1 .0) (c .before .before .before .before .before .before .before .before .before .before .take-line .kept .1 .1 .1 .1 .1 .1 .1 .0) (c .before .before .before .before .before .before .before .before .before .before .take-line .kept .1 .1 .1 .1 .1 .1 .1 .1 .0) (c .before .before .before .before .before .before .before .before .before .before .take-line .kept .1 .1 .1 .1 .1 .1 .1 .1 .1 .0) (c .before .before .before .before .before .before .before .before .before .before .before .before .before .before .before .slot-of .ensures .0) (c .before .taken2 .given .1)
 
 at-end-requires : tie.Need-at-end-requires Inv-loop μ-loop
 at-end-requires c κs = search needs
@@ -184,8 +165,8 @@ read-spec =
     slice-aggregate-take-line
     take-line-requires
     enum-known-taken
-    enum-told
     enum-known-taken-2
+    enum-known-taken-3
     refused-requires-3
     same-length-4
     same-length-5

@@ -1,4 +1,6 @@
-use mathlib.Core.Path.{ap, sym, _∙_}
+use mathlib.Core.Path.{ap, ap₂, sym, _∙_}
+use Rattle.refusal.specs.declared.Fault.{Fault}
+use Rattle.element.specs.Observation.{isRadarSet}
 use Rattle.report.specs.Inner.{heldBy, takenBy}
 use borrow.Author.Needs.{needs}
 use Rattle.report.proofs.row.held.Statement.{statement}
@@ -10,17 +12,25 @@ observation-fault-requires c κs = search needs
 enum-told : tie.Need-enum-told
 enum-told c = search needs
 
+is-radar-requires : tie.Need-is-radar-requires
+is-radar-requires c κs = search needs
+
 enum-known-fault : tie.Need-enum-known-fault
 enum-known-fault c = search needs
 
 returns : tie.Need-returns
 unfolding heldBy
-returns c = sym (ap takenBy (sym (c .before .before .observation-fault .ensures) ∙ c .enum-told .given .1))
+returns c =
+    let fault = sym (c .before .before .before .observation-fault .ensures) ∙ c .before .enum-told .given .1 in
+    sym (ap₂ takenBy fault (sym (c .is-radar .ensures)))
 
 returns-2 : tie.Need-returns-2
 unfolding heldBy
-returns-2 c = sym (ap takenBy (sym (c .before .before .before .observation-fault .ensures) ∙ c .before .fault .given .1))
+returns-2 c =
+    let fault = sym (c .before .before .before .observation-fault .ensures) ∙ c .before .fault .given .1 in
+    sym (ap (λ (f : Fault). takenBy f (isRadarSet (c .before .before .before .before .args .marks .present))) fault)
 
 pub held-spec : {M : Type 1} → statement M
 held-spec =
-    tie.close (tie.spec observation-fault-requires enum-told enum-known-fault returns returns-2)
+    tie.close
+    (tie.spec observation-fault-requires enum-told is-radar-requires enum-known-fault returns returns-2)
