@@ -1,16 +1,18 @@
 -- Steps of working out the bytes of a block.
 use mathlib.Core.Path.{_≡_, sym, ap, _∙_}
-use Prim.Native.Nat.{ℕ, _≤_, _<_, _+_, _*_, _^_}
+use Prim.Native.Nat.{ℕ, _≤_, _<_, _+_, _-_, _*_, _^_}
 use native.Mathlib.Omega.{arith}
+use lib.Bits.{bitOr}
 use lib.Count.{ones, ones-le}
 use native.Mathlib.Nat.{mul-le-mul}
 use mir.Syntax.{w64}
 use mir.Val.{Fits}
-use Rattle.element.specs.Set.{nameBytes}
+use Rattle.element.specs.Set.{nameLengths, nameBytes}
 use Rattle.element.proofs.Sets.{names-low}
 use Rattle.cuts.specs.Block.{mostRows, mostBytes, bytesOf}
 use Rattle.cuts.specs.Look.{blockLimit, headOf}
 use Rattle.cuts.specs.declared.block.Head.{Head}
+use Rattle.cuts.proofs.UnionLaws.{or-above, lengths-new}
 
 -- The head of a block: its parts are small.
 pub head-fits : (columns names : ℕ) → names ≡ nameBytes columns → Fits w64 (15 + names)
@@ -24,11 +26,40 @@ pub head-made : (columns names n : ℕ) → names ≡ nameBytes columns → n �
     → _≡_ {A = Head} (record { columns = columns; count = n; bytes = 15 + names + n }) (headOf columns)
 head-made columns names n e d = λ i. record { columns = columns; count = d i; bytes = 15 + e i + d i }
 
--- The set is the one that it was, and so is the head.
-pub head-kept : (known : Head) (columns : ℕ) → known ≡ headOf (known .columns) → columns ≡ known .columns → known ≡ headOf columns
-head-kept known columns h e = h ∙ ap headOf (sym e)
+-- A head with columns more, from one that is known.
+module _ (known : Head) (more : ℕ) (is : known ≡ headOf (known .columns)) where
+  abbrev columns : ℕ
+  columns = bitOr (known .columns) more
 
-pub ruleset head-needs = (head-fits, lines-fit, head-made, head-kept)
+  -- The set is the one that it was, and so is the head.
+  pub head-kept : columns ≡ known .columns → known ≡ headOf columns
+  head-kept e = is ∙ ap headOf (sym e)
+
+  -- The parts of the known head's bytes.
+  lines-are : known .bytes ≡ 15 + nameBytes (known .columns) + known .count
+  lines-are = omega (arith, ap (λ (h : Head). h .bytes) is, ap (λ (h : Head). h .count) is)
+
+  pub count-within : known .count ≤ known .bytes
+  count-within = omega (arith, lines-are)
+
+  -- With the names of the new columns its names are those of all columns; the parts are small, and they make the head.
+  module _ (names : ℕ) (e : names ≡ nameBytes (columns - known .columns)) where
+    names-are : known .bytes - known .count + names ≡ 15 + nameBytes columns
+    names-are = omega (arith, lines-are, e, lengths-new nameLengths (known .columns) more)
+
+    pub grown-fits : Fits w64 (known .bytes - known .count + names)
+    grown-fits = record { fits = omega (arith, names-are, names-low columns) }
+
+    pub grown-lines-fit : (n : ℕ) → n ≤ 64 → Fits w64 (known .bytes - known .count + names + n)
+    grown-lines-fit n h = record { fits = omega (arith, names-are, names-low columns) }
+
+    pub head-grown : (n : ℕ) → n ≡ ones columns
+        → _≡_ {A = Head} (record { columns = columns; count = n; bytes = known .bytes - known .count + names + n }) (headOf columns)
+    head-grown n d = λ i. record { columns = columns; count = d i; bytes = names-are i + d i }
+
+pub ruleset head-needs = (head-fits, lines-fit, head-made)
+
+pub ruleset after-needs = (or-above, head-kept, count-within, grown-fits, grown-lines-fit, head-grown)
 
 -- The bytes of a block with a head of columns that a number of the machine holds.
 module _ (head : Head) (values rows : ℕ) (is : head ≡ headOf (head .columns)) (c : head .columns < 2 ^ 64) (v : values ≤ mostBytes) (r : rows ≤ mostRows) where

@@ -1,10 +1,10 @@
 -- Unions of sets held in numbers: their order does not matter, a set put in twice is put in once, and a set that grows has no fewer
--- elements and no fewer bytes.
+-- elements and no fewer bytes, and as many bytes more as its new elements have.
 use mathlib.Core.Path.{_≡_, refl, sym, ap, ap₂, _∙_}
 use mathlib.Core.List.{List, [], _∷_}
-use Prim.Native.Nat.{ℕ, _≤_, _<_, zero, suc, _+_, _*_, _/_, _%_, max}
+use Prim.Native.Nat.{ℕ, _≤_, _<_, zero, suc, _+_, _-_, _*_, _/_, _%_, max}
 use native.Mathlib.Omega.{arith}
-use lib.Bits.{bitOr, or-comm, or-step, or-self}
+use lib.Bits.{bitOr, or-comm, or-step, or-self, or-add-and, and-le-r}
 use lib.Count.{ones, onesIn, ones-step}
 use native.Mathlib.Nat.{le-max-left}
 use lib.Arith.{bin-ind, digits-div, digits-mod}
@@ -63,3 +63,33 @@ unfolding bytesIn
 lengths-grow [] a b = omega arith
 lengths-grow (l ∷ ls) a b =
     rw (or-half a b, or-odd a b) (omega (arith, length-le (a % 2) (max (a % 2) (b % 2)) l (le-max-left (a % 2) (b % 2)), lengths-grow ls (a / 2) (b / 2)))
+
+-- A set is no more than its union with another.
+pub or-above : (a b : ℕ) → a ≤ bitOr a b
+or-above a b = omega (arith, or-add-and a b, and-le-r a b)
+
+-- The new elements of a union, bit by bit.
+module _ (a b : ℕ) where
+  new-half : (bitOr a b - a) / 2 ≡ bitOr (a / 2) (b / 2) - a / 2
+  new-half = omega (arith, or-step a b, le-max-left (a % 2) (b % 2), max-lt a b, or-above (a / 2) (b / 2))
+
+  new-odd : (bitOr a b - a) % 2 ≡ max (a % 2) (b % 2) - a % 2
+  new-odd = omega (arith, or-step a b, le-max-left (a % 2) (b % 2), max-lt a b, or-above (a / 2) (b / 2))
+
+-- The length of a bit that is set where another is, or anew.
+length-new : (x y l : ℕ) → x ≤ y → y < 2 → lengthIf y l ≡ lengthIf x l + lengthIf (y - x) l
+length-new zero y l h k =
+    let same : y - 0 ≡ y = omega arith in
+    rw same (omega arith)
+length-new (suc x) zero l h k = absurd (omega arith)
+length-new (suc x) (suc y) l h k =
+    let none : suc y - suc x ≡ 0 = omega arith in
+    rw none (omega arith)
+
+-- A set that grows has the bytes of its new elements more, whatever each element has.
+pub lengths-new : (ls : List ℕ) (a b : ℕ) → bytesIn ls (bitOr a b) ≡ bytesIn ls a + bytesIn ls (bitOr a b - a)
+unfolding bytesIn
+lengths-new [] a b = refl
+lengths-new (l ∷ ls) a b =
+    rw (new-half a b, new-odd a b, or-half a b, or-odd a b)
+    (omega (arith, length-new (a % 2) (max (a % 2) (b % 2)) l (le-max-left (a % 2) (b % 2)) (max-lt a b), lengths-new ls (a / 2) (b / 2)))

@@ -18,7 +18,9 @@ use Rattle.refusal.specs.declared.Kind.the-variants.{ElementMissing}
 use borrow.Author.Tests.{eq-eqb, ne-eqb, eqb-true, eqb-false}
 use Rattle.text.proofs.Bools.{never, bools}
 use Rattle.element.specs.Table.{upward}
-use Rattle.element.specs.Observation.{Observation, isHeld, isIn, isRadar, isRadarSet, isWgs84, isEarth, holdsAny, firstHeld, firstMissing, identification, radar, radarIdentification, radarNeeded, radarMissing, foreign, missingAt, foreignAt, opticalFault, radarFault, faultIn, observationFault}
+use Rattle.element.specs.Observation.{Observation, isHeld, isIn, isRadar, isRadarSet, isWgs84, isEarth, holdsAny, firstHeld, firstMissing}
+use Rattle.element.specs.Observation.{identification, radar, radarIdentification, radarNeeded, radarMissing, foreign, missingAt, foreignAt}
+use Rattle.element.specs.Observation.{opticalFault, radarFault, faultIn, observationFault}
 
 -- One number more, and the end.
 module _ (numbers : List ℕ) (holds : ℕ → Bool) (i : ℕ) where

@@ -1,27 +1,24 @@
 -- Laws of a line: what it comes to, by each way that it can be taken.
 use Prim.Native.Nat.{ℕ, _<_, _-_}
-use mathlib.Core.Path.{_≡_, refl, ap, sym, subst, _∙_}
+use mathlib.Core.Path.{_≡_, refl, ap, sym, subst}
 use mathlib.Core.List.{List, [], _∷_}
-use mathlib.Core.Bool.{Bool, true, false, Bool·beq}
+use mathlib.Core.Bool.{Bool, true, false}
 use lib.Dec.{eqb}
 use lib.ListN.{length, getD, take}
 use lib.Seq.{length-take-le, getD-take}
 use native.Mathlib.Omega.{arith}
 use Rattle.text.specs.Lines.{fields, printable}
 use Rattle.text.specs.Part.{same}
-use Rattle.text.proofs.Bools.{bools}
 use Rattle.refusal.specs.declared.Kind.{Kind}
 use Rattle.refusal.specs.declared.Kind.the-variants.{WrongByte, VersionExpected}
-use Rattle.element.specs.Observation.{isRadar}
-use Rattle.report.specs.Report.{Step, bad, isHash, versionLine, columnsFrom, dataLine, ofKind, opened, other, step}
+use Rattle.report.specs.Report.{Step, bad, isHash, versionLine, columnsFrom, dataLine, opened, other, step}
 use Rattle.report.specs.Index.{Index}
-use Rattle.report.specs.Inner.{between, Known, NamedCase, NamedIs, RowAsks, RowCase, RowIs, LineAsks, LineCase, TookLine, stepAt, otherAt, openedTo, takenOfKind}
+use Rattle.report.specs.Inner.{between, Known, NamedCase, NamedIs, RowAsks, RowCase, RowIs, LineAsks, LineCase, TookLine, stepAt, otherAt, openedTo, afterRows}
 use Rattle.report.specs.declared.state.Need.{Need}
 use Rattle.report.specs.declared.state.Need.the-variants as Need
 use Rattle.report.specs.declared.state.State.{State as CodeState}
 use Rattle.report.specs.declared.state.Taken.{Taken}
 use Rattle.report.specs.declared.state.Taken.the-variants as Taken
-use Rattle.report.proofs.Join.{row-kind}
 
 pub hash-none : (l : List ℕ) → length l ≡ 0 → false ≡ isHash l
 hash-none [] h = refl
@@ -46,41 +43,17 @@ line-columns {t} {columns} {columns′} {x} {from} {till} {slot} {k} {s} {r} e h
     go (Taken.Refused kind p) h = h
 
 -- A data line, where one may stand.
-pub line-row : {t columns : List ℕ} {x y : Index} {from till slot k : ℕ} {s : CodeState} {r : Taken}
-    → other (s .need) (take (s .columns) columns) (s .radar) k (between t from till) ≡ dataLine (take (s .columns) columns) k (between t from till)
-    → RowIs t (take (s .columns) columns) x y from till slot k r → TookLine t columns columns x y from till slot k s (otherAt t from till s columns k) r
-line-row {t} {columns} {x} {y} {from} {till} {slot} {k} {s} {r} e h = record { case = rw e (go r (h .case)) }
+pub line-row : {t columns : List ℕ} {x y : Index} {from till slot k : ℕ} {s : CodeState} {first : Bool} {r : Taken}
+    → other (s .need) (take (s .columns) columns) (s .radar) k (between t from till)
+    ≡ afterRows first (s .radar) (dataLine (take (s .columns) columns) k (between t from till))
+    → RowIs t (take (s .columns) columns) x y from till slot k first (s .radar) r → TookLine t columns columns x y from till slot k s (otherAt t from till s columns k) r
+line-row {t} {columns} {x} {y} {from} {till} {slot} {k} {s} {first} {r} e h = record { case = rw e (go r (h .case)) }
   where
-    go : (r : Taken) → RowCase t (take (s .columns) columns) x y from till slot k r
-        → LineCase t columns columns x y from till slot k s (dataLine (take (s .columns) columns) k (between t from till)) r
+    go : (r : Taken) → RowCase t (take (s .columns) columns) x y from till slot k first (s .radar) r
+        → LineCase t columns columns x y from till slot k s (afterRows first (s .radar) (dataLine (take (s .columns) columns) k (between t from till))) r
     go (Taken.Next s′) h = absurd h
-    go (Taken.Noted radar) h = record { got = h .got; is = h .is; kind = h .kind; few = h .few; noted = h .noted; kept = h .kept; same = refl }
+    go (Taken.Noted radar) h = record { got = h .got; is = h .is; kind-is = h .kind-is; few = h .few; noted = h .noted; kept = h .kept; same = refl }
     go (Taken.Refused kind p) h = h
-
--- A data line after rows of its block.
-pub line-more : {t columns : List ℕ} {x y : Index} {from till slot k : ℕ} {s : CodeState} {first r : Taken}
-    → other (s .need) (take (s .columns) columns) (s .radar) k (between t from till) ≡ ofKind (s .radar) (dataLine (take (s .columns) columns) k (between t from till))
-    → RowIs t (take (s .columns) columns) x y from till slot k first → r ≡ takenOfKind (s .radar) first
-    → TookLine t columns columns x y from till slot k s (otherAt t from till s columns k) r
-line-more {t} {columns} {x} {y} {from} {till} {slot} {k} {s} {first} {r} e h q = record { case = rw (e, q) (go first (h .case)) }
-  where
-    go : (first : Taken) → RowCase t (take (s .columns) columns) x y from till slot k first
-        → LineCase t columns columns x y from till slot k s (ofKind (s .radar) (dataLine (take (s .columns) columns) k (between t from till)))
-        (takenOfKind (s .radar) first)
-    go (Taken.Next s′) h = absurd h
-    go (Taken.Noted kind) h =
-        bools (Bool·beq (s .radar) kind)
-        (λ a. rw a (record {
-          got = h .got;
-          is = row-kind (s .radar) _ (h .got) (h .is) (ap (Bool·beq (s .radar)) (sym (h .kind)) ∙ a);
-          kind = h .kind;
-          few = h .few;
-          noted = h .noted;
-          kept = h .kept;
-          same = refl;
-        }))
-        (λ a. let b : Bool·beq (s .radar) (isRadar (h .got)) ≡ false = ap (Bool·beq (s .radar)) (sym (h .kind)) ∙ a in rw (a, h .is, b))
-    go (Taken.Refused kind p) h = rw h
 
 -- A refusal.
 pub line-bad : {t columns columns′ : List ℕ} {x y : Index} {from till slot k : ℕ} {s : CodeState} {taken : Step} {kind : Kind} {p : ℕ}
@@ -138,8 +111,8 @@ module _ {need : Need} (columns : List ℕ) (radar : Bool) (k : ℕ) (l : List �
   pub due-version : need ≡ Need.Version → other need columns radar k l ≡ bad VersionExpected 0
   due-version e = ap (λ (n : Need). other n columns radar k l) e
 
-  pub due-row : need ≡ Need.Row → other need columns radar k l ≡ dataLine columns k l
+  pub due-row : need ≡ Need.Row → other need columns radar k l ≡ afterRows true radar (dataLine columns k l)
   due-row e = ap (λ (n : Need). other n columns radar k l) e
 
-  pub due-nothing : need ≡ Need.Nothing → other need columns radar k l ≡ ofKind radar (dataLine columns k l)
+  pub due-nothing : need ≡ Need.Nothing → other need columns radar k l ≡ afterRows false radar (dataLine columns k l)
   due-nothing e = ap (λ (n : Need). other n columns radar k l) e

@@ -299,8 +299,8 @@ module _ {t columns : List ℕ} {first room : ℕ} {x₀ x : Index} {at number k
                     let w : i ≡ slot → ⊥ = λ z. slot-other first room k i a m (sym slot-is ∙ sym z) in
                     rw (List·getD-append (v .rows) (n .got ∷ []) [] (first + i) mr, List·getD-append (v .spots) (spot ∷ []) [] (first + i) ms)
                     (noted-kept (n .kept) i w (v .noted i a m)));
-                rest = on ∙ (rw (n .is, n .kind, add-one number, add-one k, n .same) (prefix-snoc (v .rows) (n .got) _));
-                left = on-starts ∙ rw (n .is, n .kind, add-one k, n .same, append-assoc);
+                rest = on ∙ (rw (n .is, n .kind-is, add-one number, add-one k, n .same) (prefix-snoc (v .rows) (n .got) _));
+                left = on-starts ∙ rw (n .is, n .kind-is, add-one k, n .same, append-assoc);
               }
 
           pub read-row : slot ≡ slotOf first room k → {radar : Bool} → r ≡ Taken.Noted radar

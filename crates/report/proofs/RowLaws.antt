@@ -2,7 +2,7 @@
 use Prim.Native.Nat.{ℕ, zero, suc, _≤_, _<_, _+_, _-_, _*_, _^_, _%_}
 use mathlib.Core.Path.{_≡_, refl, ap, sym, _∙_}
 use mathlib.Core.List.{List, [], _∷_}
-use mathlib.Core.Bool.{true, false, cond, true≢false}
+use mathlib.Core.Bool.{Bool, true, false, cond, _||_, true≢false, Bool·beq}
 use lib.Dec.{eqb}
 use lib.ListN.{length, take, drop, getD, set, length-set, length-drop, length-take, drop-of-length-le, replicate}
 use lib.Seq.{getD-set-same, getD-set-other, drop-cons, drop-drop}
@@ -17,18 +17,18 @@ use Rattle.text.specs.Bytes.{bytes}
 use Rattle.text.proofs.Bools.{bools}
 use Rattle.text.proofs.LineLaws.{part-of-part, fields-more, fields-last, fields-first}
 use Rattle.refusal.specs.declared.Kind.{Kind}
-use Rattle.refusal.specs.declared.Kind.the-variants.{TooManyRows, FieldCountDiffers}
+use Rattle.refusal.specs.declared.Kind.the-variants.{TooManyRows, FieldCountDiffers, KindsMixed}
 use Rattle.refusal.specs.declared.Fault.{Fault}
 use Rattle.refusal.specs.declared.Fault.the-variants.{Sound, At}
 use Rattle.element.specs.Table.{elements}
 use Rattle.element.specs.Form.{faultOf}
-use Rattle.element.specs.Observation.{Observation, isPresent, setOf, isWgs84, isEarth, isRadarSet, observationFault, setFault}
+use Rattle.element.specs.Observation.{Observation, isPresent, setOf, isWgs84, isEarth, isRadar, isRadarSet, observationFault, setFault}
 use Rattle.element.specs.declared.form.Check.the-variants.{Fine, Bad}
 use Rattle.element.proofs.Sets.{set-mark, set-fault, set-radar}
-use Rattle.report.specs.Report.{fieldFault, fill, rowOf, dataLine, bad, rowLimit}
+use Rattle.report.specs.Report.{Step, row, bad, fieldFault, fill, rowOf, dataLine, rowLimit}
 use Rattle.report.specs.Starts.{fillStarts, startsOf}
 use Rattle.report.specs.Index.{Index, lent, Shows, Noted}
-use Rattle.report.specs.Inner.{between, marksOf, markOn, takenBy, heldBy, Kept, FieldsAsk, FieldsGood, FieldsAre, RowAsks, RowCase, RowIs}
+use Rattle.report.specs.Inner.{between, marksOf, markOn, afterRows, takenBy, heldBy, Kept, FieldsAsk, FieldsGood, FieldsAre, RowAsks, RowCase, RowIs}
 use Rattle.report.specs.declared.row.Marks.{Marks}
 use Rattle.report.specs.declared.row.Fields.{Fields}
 use Rattle.report.specs.declared.row.Fields.the-variants as Fields
@@ -349,6 +349,25 @@ module _ {t columns st ln st′ ln′ : List ℕ} {from till base : ℕ} {r : Fi
   pub wrong-of : {kind : Kind} {p : ℕ} → r ≡ Fields.Wrong kind p → fieldFault 1 columns (fields (between t from till)) ≡ At kind p
   wrong-of e = rw e at (f .case)
 
+-- A refused row is refused also after rows of its block; a row is one where it is the first or of their kind, and else 21.
+rows-bad : (first radar : Bool) {taken : Step} {kind : Kind} {p : ℕ} → taken ≡ bad kind p → afterRows first radar taken ≡ bad kind p
+rows-bad true radar e = e
+rows-bad false radar e = rw e
+
+rows-row : (first radar : Bool) {taken : Step} {o : Observation} → taken ≡ row o → (first || Bool·beq radar (isRadar o)) ≡ true
+    → afterRows first radar taken ≡ row o
+rows-row true radar e s = e
+rows-row false radar e s = rw (e, s)
+
+rows-mixed : (first radar : Bool) {taken : Step} {o : Observation} → taken ≡ row o → (first || Bool·beq radar (isRadar o)) ≡ false
+    → afterRows first radar taken ≡ bad KindsMixed 0
+rows-mixed true radar e s = absurd (true≢false s)
+rows-mixed false radar e s = rw (e, s)
+
+pub row-refused : {t columns : List ℕ} {x y : Index} {from till slot k : ℕ} {first radar : Bool} {kind : Kind} {p : ℕ}
+    → dataLine columns k (between t from till) ≡ bad kind p → RowIs t columns x y from till slot k first radar (Taken.Refused kind p)
+row-refused {first = first} {radar = radar} e = record { case = rows-bad first radar e }
+
 pub row-many : (columns : List ℕ) (k : ℕ) (l : List ℕ) → rowLimit ≤ k → dataLine columns k l ≡ bad TooManyRows 0
 unfolding dataLine
 row-many columns k l h = rw (le-ltb k rowLimit h)
@@ -382,18 +401,29 @@ module _ {t columns : List ℕ} {x : Index} {from till parts slot k : ℕ} (asks
       fault-is : setFault (m .present) (m .wgs84) (m .earth) ≡ observationFault (rowOf columns (fields (between t from till)))
       fault-is = rw (g .marks) (set-fault (rowOf columns (fields (between t from till))))
 
-      pub row-held : {r : Taken} → r ≡ heldBy m → RowIs t columns x (lent (set (x .sets) slot (m .present)) st′ ln′) from till slot k r
+      pub row-held : (first radar : Bool) {r : Taken} → r ≡ heldBy m first radar
+          → RowIs t columns x (lent (set (x .sets) slot (m .present)) st′ ln′) from till slot k first radar r
       unfolding dataLine heldBy
-      row-held {r} e = record { case = go (observationFault (rowOf columns (fields (between t from till)))) refl }
+      row-held first radar {r} e = record { case = go (observationFault (rowOf columns (fields (between t from till)))) refl }
         where
+          kind-of : isRadarSet (m .present) ≡ isRadar (rowOf columns (fields (between t from till)))
+          kind-of = ap (λ (y : Marks). isRadarSet (y .present)) (g .marks) ∙ set-radar (rowOf columns (fields (between t from till)))
+
+          by : (f : Fault) → observationFault (rowOf columns (fields (between t from till))) ≡ f → r ≡ takenBy f first radar (isRadarSet (m .present))
+          by f q = e ∙ ap (λ (x : Fault). takenBy x first radar (isRadarSet (m .present))) (fault-is ∙ q)
+
           go : (f : Fault) → observationFault (rowOf columns (fields (between t from till))) ≡ f
-              → RowCase t columns x (lent (set (x .sets) slot (m .present)) st′ ln′) from till slot k r
+              → RowCase t columns x (lent (set (x .sets) slot (m .present)) st′ ln′) from till slot k first radar r
           go Sound q =
-              let r-is : r ≡ Taken.Noted (isRadarSet (m .present)) = e ∙ ap (λ (f : Fault). takenBy f (isRadarSet (m .present))) (fault-is ∙ q) in
+              let taken : dataLine columns k (between t from till) ≡ row (rowOf columns (fields (between t from till))) =
+              rw (lt-ltb k rowLimit h, eq-eqb _ _ count-is, g .sound, q) in
+              bools (first || Bool·beq radar (isRadarSet (m .present)))
+              (λ s.
+              let r-is : r ≡ Taken.Noted (isRadarSet (m .present)) = rw s at (by Sound q) in
               rw r-is (record {
                 got = rowOf columns (fields (between t from till));
-                is = rw (lt-ltb k rowLimit h, eq-eqb _ _ count-is, g .sound, q);
-                kind = ap (λ (y : Marks). isRadarSet (y .present)) (g .marks) ∙ set-radar (rowOf columns (fields (between t from till)));
+                is = rows-row first radar taken (rw kind-of at s);
+                kind-is = kind-of;
                 few = h;
                 noted = record {
                   set-is = getD-set-same (x .sets) slot (m .present) 0 (asks .room .sets-room) ∙ ap (λ (y : Marks). y .present) (g .marks);
@@ -404,7 +434,7 @@ module _ {t columns : List ℕ} {x : Index} {from till parts slot k : ℕ} (asks
                   starts-kept = g .starts-kept;
                   lengths-kept = g .lengths-kept;
                 };
-              })
+              }))
+              (λ s. let r-is : r ≡ Taken.Refused KindsMixed 0 = rw s at (by Sound q) in rw r-is (rows-mixed first radar taken (rw kind-of at s)))
           go (At kind p) q =
-              let r-is : r ≡ Taken.Refused kind p = e ∙ ap (λ (f : Fault). takenBy f (isRadarSet (m .present))) (fault-is ∙ q) in
-              rw r-is (rw (lt-ltb k rowLimit h, eq-eqb _ _ count-is, g .sound, q))
+              rw (by (At kind p) q) (rows-bad first radar (rw (lt-ltb k rowLimit h, eq-eqb _ _ count-is, g .sound, q)))

@@ -2,7 +2,7 @@
 use Prim.Native.Nat.{ℕ, suc, _+_, _-_, _*_, _^_, _≤_, _<_}
 use mathlib.Core.Path.{_≡_}
 use mathlib.Core.List.{List, []}
-use mathlib.Core.Bool.{Bool, false, cond, _&&_, Bool·beq}
+use mathlib.Core.Bool.{Bool, false, cond, _&&_, _||_, Bool·beq}
 use lib.Bits.{bitOr}
 use lib.Dec.{eqb, leb, ltb}
 use lib.ListN.{length, take, drop, getD, set}
@@ -16,7 +16,7 @@ use Rattle.refusal.specs.declared.Fault.the-variants.{Sound, At}
 use Rattle.element.specs.Set.{has}
 use Rattle.element.specs.Table.{elements}
 use Rattle.element.specs.Observation.{Observation, isPresent, isRadar, setOf, isWgs84, isEarth, isRadarSet, setFault}
-use Rattle.report.specs.Report.{State, Step, next, row, bad, columnsFrom, fieldFault, rowOf, dataLine, other, step, read, rowLimit}
+use Rattle.report.specs.Report.{State, Step, next, row, bad, columnsFrom, fieldFault, rowOf, dataLine, ofKind, other, step, read, rowLimit}
 use Rattle.report.specs.Starts.{startsOf, startsIn}
 use Rattle.report.specs.Answers.{shownOf, showingPaper, showingAnswer}
 use Rattle.report.specs.Index.{Index, Shows, Noted}
@@ -78,14 +78,22 @@ markOn m e v =
     })
     m
 
--- What a fault makes of an observation that is noted, which is radar or not.
-abbrev pub takenBy : Fault → Bool → Taken
-takenBy Sound radar = Taken.Noted radar
-takenBy (At kind p) radar = Taken.Refused kind p
+-- What the first data line of a block comes to, or one after rows that are radar or not.
+abbrev pub afterRows : Bool → Bool → Step → Step
+afterRows first radar taken = cond first taken (ofKind radar taken)
 
--- What marks come to: an observation, unless it does not hold what it must.
-unfoldable pub heldBy : Marks → Taken
-heldBy m = takenBy (setFault (m .present) (m .wgs84) (m .earth)) (isRadarSet (m .present))
+-- An observation that is radar or not, there.
+abbrev pub notedAfter : Bool → Bool → Bool → Taken
+notedAfter first radar kind = cond (first || Bool·beq radar kind) (Taken.Noted kind) (Taken.Refused KindsMixed 0)
+
+-- What a fault makes of it.
+abbrev pub takenBy : Fault → Bool → Bool → Bool → Taken
+takenBy Sound first radar kind = notedAfter first radar kind
+takenBy (At kind p) first radar other = Taken.Refused kind p
+
+-- What marks come to: an observation, unless it does not hold what it must or is of another kind.
+unfoldable pub heldBy : Marks → Bool → Bool → Taken
+heldBy m first radar = takenBy (setFault (m .present) (m .wgs84) (m .earth)) first radar (isRadarSet (m .present))
 
 -- Outside a row's entries from base on nothing changed.
 abbrev pub Kept : List ℕ → List ℕ → ℕ → Type 0
@@ -141,21 +149,22 @@ pub record KeptBut (x y : Index) (slot : ℕ) : Type 0 where
   pub lengths-kept : Kept (x .lengths) (y .lengths) (slot * elements)
 
 -- The data line is an observation, noted at the slot.
-pub record RowGood (t columns : List ℕ) (x y : Index) (from till slot k : ℕ) (radar : Bool) : Type 0 where
+pub record RowGood (t columns : List ℕ) (x y : Index) (from till slot k : ℕ) (first radar kind : Bool) : Type 0 where
   pub got : Observation
-  pub is : dataLine columns k (between t from till) ≡ row got
-  pub kind : radar ≡ isRadar got
+  pub is : afterRows first radar (dataLine columns k (between t from till)) ≡ row got
+  pub kind-is : kind ≡ isRadar got
   pub few : k < rowLimit
   pub noted : Noted t y slot got (startsOf columns (fields (between t from till)) from)
   pub kept : KeptBut x y slot
 
-abbrev pub RowCase : List ℕ → List ℕ → Index → Index → ℕ → ℕ → ℕ → ℕ → Taken → Type 0
-RowCase t columns x y from till slot k (Taken.Next s) = ⊥
-RowCase t columns x y from till slot k (Taken.Noted radar) = RowGood t columns x y from till slot k radar
-RowCase t columns x y from till slot k (Taken.Refused kind p) = dataLine columns k (between t from till) ≡ bad kind p
+abbrev pub RowCase : List ℕ → List ℕ → Index → Index → ℕ → ℕ → ℕ → ℕ → Bool → Bool → Taken → Type 0
+RowCase t columns x y from till slot k first radar (Taken.Next s) = ⊥
+RowCase t columns x y from till slot k first radar (Taken.Noted kind) = RowGood t columns x y from till slot k first radar kind
+RowCase t columns x y from till slot k first radar (Taken.Refused kind p) =
+    afterRows first radar (dataLine columns k (between t from till)) ≡ bad kind p
 
-pub record RowIs (t columns : List ℕ) (x y : Index) (from till slot k : ℕ) (r : Taken) : Type 0 where
-  pub case : RowCase t columns x y from till slot k r
+pub record RowIs (t columns : List ℕ) (x y : Index) (from till slot k : ℕ) (first radar : Bool) (r : Taken) : Type 0 where
+  pub case : RowCase t columns x y from till slot k first radar r
 
 -- ---- a line
 
@@ -174,16 +183,6 @@ openedTo Need.Columns = Taken.Refused BlockUnfinished 0
 openedTo Need.Row = Taken.Refused BlockUnfinished 0
 openedTo Need.Nothing = Taken.Next (record { need = Need.Columns; columns = 0; radar = false })
 
--- An observation that is radar or not, after rows of its block that are radar or not.
-abbrev pub notedOfKind : Bool → Bool → Taken
-notedOfKind radar kind = cond (Bool·beq radar kind) (Taken.Noted kind) (Taken.Refused KindsMixed 0)
-
--- What a data line comes to, after such rows.
-abbrev pub takenOfKind : Bool → Taken → Taken
-takenOfKind radar (Taken.Next s) = Taken.Next s
-takenOfKind radar (Taken.Noted kind) = notedOfKind radar kind
-takenOfKind radar (Taken.Refused kind p) = Taken.Refused kind p
-
 -- The line is a version line or a column line: the state after it; the index is as it was.
 pub record NextIs (columns : List ℕ) (x y : Index) (taken : Step) (s : CodeState) : Type 0 where
   pub is : taken ≡ next (stateOf s columns)
@@ -194,7 +193,7 @@ pub record NextIs (columns : List ℕ) (x y : Index) (taken : Step) (s : CodeSta
 pub record RowTaken (t columns columns′ : List ℕ) (x y : Index) (from till slot k : ℕ) (s : CodeState) (taken : Step) (radar : Bool) : Type 0 where
   pub got : Observation
   pub is : taken ≡ row got
-  pub kind : radar ≡ isRadar got
+  pub kind-is : radar ≡ isRadar got
   pub few : k < rowLimit
   pub noted : Noted t y slot got (startsOf (take (s .columns) columns) (fields (between t from till)) from)
   pub kept : KeptBut x y slot

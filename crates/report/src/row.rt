@@ -14,7 +14,7 @@ ghost use lib.Dec.{eqb};
 ghost use lib.ListN.{length as length′, set};
 ghost use Rattle.element.specs.Table.{elements};
 ghost use Rattle.report.specs.Index.{lent};
-ghost use Rattle.report.specs.Inner.{markOn, heldBy, FieldsAsk, FieldsAre, RowAsks, RowIs};
+ghost use Rattle.report.specs.Inner.{markOn, notedAfter, heldBy, FieldsAsk, FieldsAre, RowAsks, RowIs};
 
 // What the values passed so far tell of their observation: the set of present elements, whether sys is WGS84, whether ctr is 399.
 pub struct Marks {
@@ -29,7 +29,8 @@ pub enum Fields {
     Wrong(Kind, usize),
 }
 
-// A data line with k before it: 14, 18, its fields, its observation, which is noted in the index at a slot.
+// A data line with k before it, which is the first of its block or stands after rows that are radar or not: 14, 18, its fields, its
+// observation, which is noted in the index at a slot, 21.
 pub(crate) fn data_line(
     report: &[u8],
     from: usize,
@@ -41,9 +42,11 @@ pub(crate) fn data_line(
     lengths: &mut [u16],
     slot: usize,
     k: usize,
+    first: bool,
+    radar: bool,
 ) -> Taken
     requires { ⌜ RowAsks (now report) (now columns) (lent (now sets) (now starts) (now lengths)) from till fields slot ⌝ }
-    ensures { λ r. ⌜ RowIs (now (report .entry)) (now (columns .entry)) (lent (now (sets .entry)) (now (starts .entry)) (now (lengths .entry))) (lent (now (sets .exit)) (now (starts .exit)) (now (lengths .exit))) from till slot k r ⌝ }
+    ensures { λ r. ⌜ RowIs (now (report .entry)) (now (columns .entry)) (lent (now (sets .entry)) (now (starts .entry)) (now (lengths .entry))) (lent (now (sets .exit)) (now (starts .exit)) (now (lengths .exit))) from till slot k first radar r ⌝ }
 {
     if k >= ROW_LIMIT {
         return Taken::Refused(Kind::TooManyRows, 0);
@@ -59,20 +62,31 @@ pub(crate) fn data_line(
         }
         Fields::Good(marks) => {
             sets[slot] = marks.present;
-            return held(marks);
+            return held(marks, first, radar);
         }
     }
 }
 
-// What a data line comes to whose fields are right: an observation, unless it does not hold what it must.
-fn held(marks: Marks) -> Taken
-    ensures { λ r. ⌜ r ≡ heldBy marks ⌝ }
+// What a data line comes to whose fields are right: an observation, unless it does not hold what it must or is of another kind than the
+// rows before it.
+fn held(marks: Marks, first: bool, radar: bool) -> Taken
+    ensures { λ r. ⌜ r ≡ heldBy marks first radar ⌝ }
 {
     let fault = observation_fault(marks.present, marks.wgs84, marks.earth);
     match fault {
-        Fault::Sound => Taken::Noted(is_radar(marks.present)),
+        Fault::Sound => noted(first, radar, is_radar(marks.present)),
         Fault::At(kind, place) => Taken::Refused(kind, place),
     }
+}
+
+// An observation that is radar or not, the first of its block or after rows that are radar or not: 21 where it is of another kind.
+fn noted(first: bool, radar: bool, kind: bool) -> Taken
+    ensures { λ r. ⌜ r ≡ notedAfter first radar kind ⌝ }
+{
+    if first | (radar == kind) {
+        return Taken::Noted(kind);
+    }
+    Taken::Refused(Kind::KindsMixed, 0)
 }
 
 // The fields of the data line from..till: the first fault, or the marks of its observation; where each value lies is noted from entry base on.

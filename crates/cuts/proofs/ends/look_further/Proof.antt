@@ -52,12 +52,12 @@ block-bytes-requires c κs = search (needs, further-needs)
 
 mul-cost : tie.Need-mul-cost
 mul-cost c =
-    let pre = c .before .before .before .before .before .before .before .before .before .before .before .before .before .before .before .before .pre in
+    let pre = c .before .before .before .before .before .before .before .before .before .before .before .before .before .before .before .pre in
     omega (arith, pre .0 .few, pre .2)
 
 shared-slice-read-cost : tie.Need-shared-slice-read-cost
 shared-slice-read-cost c =
-    let pre = c .before .before .before .before .before .before .before .before .before .before .before .before .before .before .before .before .before .pre in
+    let pre = c .before .before .before .before .before .before .before .before .before .before .before .before .before .before .before .before .pre in
     omega (arith, pre .0 .rest, pre .2)
 
 add-cost : tie.Need-add-cost
@@ -69,7 +69,7 @@ returns c =
     let wide-count = c .before .before .before .before .before .wide-count in
     let wide-size = c .before .before .before .before .before .before .before .before .wide-size in
     let head-after = c .before .before .before .before .before .before .before .before .before .before .head-after in
-    let pre = c .before .before .before .before .before .before .before .before .before .before .before .before .before .before .before .before .before .before .before .pre in
+    let pre = c .before .before .before .before .before .before .before .before .before .before .before .before .before .before .before .before .before .before .pre in
     (step-take _ _ _ _ (pre .0) _ (pre .1) (pre .2) _ _ _ _ (wide-size .ensures .0) (wide-count .ensures) (head-after .ensures) (block-bytes .ensures) (c .if1 .taken), refl, refl)
 
 returns-2 : tie.Need-returns-2
@@ -78,7 +78,7 @@ returns-2 c =
     let wide-count = c .before .before .before .before .before .wide-count in
     let wide-size = c .before .before .before .before .before .before .before .before .wide-size in
     let head-after = c .before .before .before .before .before .before .before .before .before .before .head-after in
-    let pre = c .before .before .before .before .before .before .before .before .before .before .before .before .before .before .before .before .before .before .before .pre in
+    let pre = c .before .before .before .before .before .before .before .before .before .before .before .before .before .before .before .before .before .before .pre in
     (step-leave _ _ _ _ (pre .0) _ (pre .1) (pre .2) _ _ _ _ (wide-size .ensures .0) (wide-count .ensures) (head-after .ensures) (block-bytes .ensures) (c .if1 .left), refl, refl)
 
 pub look-further-spec : {M : Type 1} → statement M

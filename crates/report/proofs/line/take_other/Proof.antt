@@ -1,4 +1,4 @@
-use Rattle.report.proofs.LineSteps.{line-columns, line-row, line-more, row-asks, line-bad, due-version, due-row, due-nothing}
+use Rattle.report.proofs.LineSteps.{line-columns, line-row, row-asks, line-bad, due-version, due-row, due-nothing}
 use mathlib.Core.Path.{sym}
 use native.Mathlib.Omega.{arith}
 use lib.Seq.{length-take-le}
@@ -78,9 +78,6 @@ slice-aggregate-data-line-2 c =
 data-line-requires-2 : tie.Need-data-line-requires-2
 data-line-requires-2 c κs = row-asks (c .before .before .before .before .before .before .before .before .before .before .before .pre)
 
-of-kind-requires : tie.Need-of-kind-requires
-of-kind-requires c κs = search needs
-
 same-length-6 : tie.Need-same-length-6
 same-length-6 c = search needs
 
@@ -94,7 +91,7 @@ same-length-9 : tie.Need-same-length-9
 same-length-9 c = search needs
 
 returns-4 : tie.Need-returns-4
-returns-4 c = line-more (due-nothing _ _ _ _ (c .before .before .before .before .before .before .before .before .before .before .before .before .enum-told4 .given .1)) (c .before .before .before .before .before .before .before .data-line2 .ensures) (c .of-kind .ensures)
+returns-4 c = line-row (due-nothing _ _ _ _ (c .before .before .before .before .before .before .before .before .before .before .before .enum-told4 .given .1)) (c .before .before .before .before .before .before .data-line2 .ensures)
 
 pub take-other-spec : {M : Type 1} → statement M
 take-other-spec =
@@ -122,7 +119,6 @@ take-other-spec =
     slice-reshare-prefix-data-line-2
     slice-aggregate-data-line-2
     data-line-requires-2
-    of-kind-requires
     same-length-6
     same-length-7
     same-length-8

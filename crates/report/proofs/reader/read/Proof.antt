@@ -99,7 +99,15 @@ same-length-6 : tie.Need-same-length-6 Inv-loop μ-loop
 same-length-6 c = search needs
 
 returns-3 : tie.Need-returns-3 Inv-loop μ-loop
-returns-3 c = read-bad (c .before .before .before .before .before .before .before .before .before .before .before .before .before .before .before .before .before .before .before .before .before .before .loop .inv) (c .before .before .before .before .before .before .before .before .before .before .before .before .before .before .before .before .before .before .before .before .before .loop-test .taken) (c .before .before .before .before .before .before .before .before .before .before .before .before .before .before .before .before .before .before .before .scan .ensures) (c .before .before .before .before .before .before .before .before .before .before .before .before .before .before .before .before .before .if2 .left) (c .before .before .before .before .before .before .before .before .before .before .before .take-line .ensures) (c .before .before .taken3 .given .1) (c .refused3 .ensures)
+returns-3 c =
+    let loop = c .before .before .before .before .before .before .before .before .before .before .before .before .before .before .before .before .before .before .before .before .before .before .loop in
+    let loop-test = c .before .before .before .before .before .before .before .before .before .before .before .before .before .before .before .before .before .before .before .before .before .loop-test in
+    let scan = c .before .before .before .before .before .before .before .before .before .before .before .before .before .before .before .before .before .before .before .scan in
+    let if2 = c .before .before .before .before .before .before .before .before .before .before .before .before .before .before .before .before .before .if2 in
+    let take-line = c .before .before .before .before .before .before .before .before .before .before .before .take-line in
+    let taken3 = c .before .before .taken3 in
+    let refused3 = c .refused3 in
+    read-bad (loop .inv) (loop-test .taken) (scan .ensures) (if2 .left) (take-line .ensures) (taken3 .given .1) (refused3 .ensures)
 
 loop-less : tie.Need-loop-less Inv-loop μ-loop
 loop-less c =
@@ -119,10 +127,23 @@ loop-again c =
     read-next (loop .inv) (loop-test .taken) (scan .ensures) (if2 .left) (take-line .ensures) (take-line .kept .1 .1 .1 .1 .1 .1 .0) (take-line .kept .1 .1 .1 .1 .1 .1 .1 .0) (take-line .kept .1 .1 .1 .1 .1 .1 .1 .1 .0) (take-line .kept .1 .1 .1 .1 .1 .1 .1 .1 .1 .0) (taken .given .1)
 
 loop-less-2 : tie.Need-loop-less-2 Inv-loop μ-loop
-loop-less-2 c = omega (arith, line-fits (c .before .before .before .before .before .before .before .before .before .before .before .before .before .before .before .before .before .before .before .before .before .loop .inv) (c .before .before .before .before .before .before .before .before .before .before .before .before .before .before .before .before .before .before .before .before .loop-test .taken) (c .before .before .before .before .before .before .before .before .before .before .before .before .before .before .before .before .before .before .scan .ensures), c .before .before .before .before .before .before .before .before .before .before .before .before .before .before .before .before .before .before .before .before .loop-test .taken)
+loop-less-2 c =
+    let loop = c .before .before .before .before .before .before .before .before .before .before .before .before .before .before .before .before .before .before .before .before .before .loop in
+    let loop-test = c .before .before .before .before .before .before .before .before .before .before .before .before .before .before .before .before .before .before .before .before .loop-test in
+    let scan = c .before .before .before .before .before .before .before .before .before .before .before .before .before .before .before .before .before .before .scan in
+    omega (arith, line-fits (loop .inv) (loop-test .taken) (scan .ensures), loop-test .taken)
 
 loop-again-2 : tie.Need-loop-again-2 Inv-loop μ-loop
-loop-again-2 c = read-row (c .before .before .before .before .before .before .before .before .before .before .before .before .before .before .before .before .before .before .before .before .before .loop .inv) (c .before .before .before .before .before .before .before .before .before .before .before .before .before .before .before .before .before .before .before .before .loop-test .taken) (c .before .before .before .before .before .before .before .before .before .before .before .before .before .before .before .before .before .before .scan .ensures) (c .before .before .before .before .before .before .before .before .before .before .before .before .before .before .before .before .if2 .left) (c .before .before .before .before .before .before .before .before .before .before .take-line .ensures) (c .before .before .before .before .before .before .before .before .before .before .take-line .kept .1 .1 .1 .1 .1 .1 .0) (c .before .before .before .before .before .before .before .before .before .before .take-line .kept .1 .1 .1 .1 .1 .1 .1 .0) (c .before .before .before .before .before .before .before .before .before .before .take-line .kept .1 .1 .1 .1 .1 .1 .1 .1 .0) (c .before .before .before .before .before .before .before .before .before .before .take-line .kept .1 .1 .1 .1 .1 .1 .1 .1 .1 .0) (c .before .before .before .before .before .before .before .before .before .before .before .before .before .before .before .slot-of .ensures .0) (c .before .taken2 .given .1)
+loop-again-2 c =
+    let loop = c .before .before .before .before .before .before .before .before .before .before .before .before .before .before .before .before .before .before .before .before .before .loop in
+    let loop-test = c .before .before .before .before .before .before .before .before .before .before .before .before .before .before .before .before .before .before .before .before .loop-test in
+    let scan = c .before .before .before .before .before .before .before .before .before .before .before .before .before .before .before .before .before .before .scan in
+    let if2 = c .before .before .before .before .before .before .before .before .before .before .before .before .before .before .before .before .if2 in
+    let take-line = c .before .before .before .before .before .before .before .before .before .before .take-line in
+    let slot-of = c .before .before .before .before .before .before .before .before .before .before .before .before .before .before .before .slot-of in
+    let taken2 = c .before .taken2 in
+    read-row (loop .inv) (loop-test .taken) (scan .ensures) (if2 .left) (take-line .ensures)
+    (take-line .kept .1 .1 .1 .1 .1 .1 .0) (take-line .kept .1 .1 .1 .1 .1 .1 .1 .0) (take-line .kept .1 .1 .1 .1 .1 .1 .1 .1 .0) (take-line .kept .1 .1 .1 .1 .1 .1 .1 .1 .1 .0) (slot-of .ensures .0) (taken2 .given .1)
 
 at-end-requires : tie.Need-at-end-requires Inv-loop μ-loop
 at-end-requires c κs = search needs

@@ -1,14 +1,14 @@
 use native.Mathlib.Omega.{arith}
-use Rattle.report.proofs.RowLaws.{row-many, row-count, fields-ask, wrong-of, row-fields, good-of, row-held}
+use Rattle.report.proofs.RowLaws.{row-refused, row-many, row-count, fields-ask, wrong-of, row-fields, good-of, row-held}
 use borrow.Author.Needs.{needs}
 use Rattle.report.proofs.row.data_line.Statement.{statement}
 use Rattle.report.proofs.row.data_line.Tie as tie
 
 returns : tie.Need-returns
-returns c = record { case = row-many _ _ _ (c .if1 .taken) }
+returns c = row-refused (row-many _ _ _ (c .if1 .taken))
 
 returns-2 : tie.Need-returns-2
-returns-2 c = record { case = row-count (c .before .before .before .before .before .before .before .pre) (c .before .if1 .left) (c .if2 .taken) }
+returns-2 c = row-refused (row-count (c .before .before .before .before .before .before .before .pre) (c .before .if1 .left) (c .if2 .taken))
 
 mul-base : tie.Need-mul-base
 mul-base c = omega (arith, c .before .before .before .before .before .before .before .pre .room .starts-room)
@@ -32,7 +32,7 @@ returns-3 c =
     let if2 = c .before .before .before .before .before .before .before .before .before .before .if2 in
     let take-fields = c .before .before .before .before .before .before .before .take-fields in
     let taken = c .before .taken in
-    record { case = row-fields pre (if1 .left) (if2 .left) (wrong-of (take-fields .ensures) (taken .given .1)) }
+    row-refused (row-fields pre (if1 .left) (if2 .left) (wrong-of (take-fields .ensures) (taken .given .1)))
 
 enum-known-taken-2 : tie.Need-enum-known-taken-2
 enum-known-taken-2 c = search needs
@@ -62,7 +62,7 @@ returns-4 c =
     let if2 = c .before .before .before .before .before .before .before .before .before .before .before .if2 in
     let take-fields = c .before .before .before .before .before .before .before .before .take-fields in
     let taken2 = c .before .before .taken2 in
-    row-held pre (if1 .left) (if2 .left) (good-of (take-fields .ensures) (taken2 .given .1)) (c .held .ensures)
+    row-held pre (if1 .left) (if2 .left) (good-of (take-fields .ensures) (taken2 .given .1)) _ _ (c .held .ensures)
 
 pub data-line-spec : {M : Type 1} → statement M
 data-line-spec =
