@@ -12,7 +12,7 @@
  *  - A report or a name is only read, and so is a list that is checked or read. What is written to, an output or the list of
  *    kyrr_night_write, must not overlap the report.
  *  - No memory is kept, allocated or freed; calls from several threads at once do not disturb one another.
- *  - Stack, the return address included: 2,048 bytes are enough for kyrr_check, kyrr_show, kyrr_value and kyrr_night_write, 61,440
+ *  - Stack, the return address included: 2,048 bytes are enough for kyrr_check, kyrr_show, kyrr_value and kyrr_night_write, 70,656
  *    for kyrr_pack, of one row as of 256, and 512 for kyrr_night_check, kyrr_night_read, kyrr_name and kyrr_element. Measured and
  *    not proved, with the library as `rt staticlib` builds it with LLVM 22.1.8; docs/SPEED.md has the exact figures. A program that
  *    binds memcpy and memset only at their first call needs 4,096 more for that.
