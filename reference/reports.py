@@ -257,7 +257,7 @@ def random_value(chance, element):
     """A right value of the element."""
     _, form, *details = ELEMENTS[element]
     if form.__name__ == "alphanumerics":
-        return some(chance, ALPHANUMERICS, details[0], details[1])
+        return some(chance, ALPHANUMERICS, details[0], details[1]).replace(b"l", b"k")  # a small l is read as 1
     if form.__name__ == "word":
         return chance.choice(details[0].split())
     if form.__name__ == "positive_decimal":
