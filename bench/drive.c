@@ -1,12 +1,14 @@
 /* Runs the proved box and the plain implementation on one report:
  *
  *     drive REPORT compare            both answers and all output bytes are the same
- *     drive REPORT time               the time of one call of each function in the table `calls`, in nanoseconds
+ *     drive REPORT time CALL          the time of one call of the proved function of that name in the table `calls` and of the plain
+ *                                     one after it, in nanoseconds
  *     drive REPORT CALL               one call only, to count its instructions: the function of that name in the table; after it
  *                                     comes the function finished
  *
- * Beside checking and packing the calls write the night list's record of the first and of the last observation, which is refused
- * where that is a radar one, check a list of 256 records and read its last one.
+ * Beside checking and packing the calls value obsTime of the first observation, write the night list's record of the first and of
+ * the last observation, which is refused where that is a radar one, and of all observations, each by its own call, check a list of
+ * 256 records and read its last one.
  *
  * Declares the few functions of the C library that it needs, so that it can be built where only the linker's libraries of
  * x86-64 are. */
@@ -24,7 +26,7 @@ void *memset(void *bytes, int byte, size_t count);
 void *memcpy(void *to, const void *from, size_t count);
 int clock_gettime(int clock, moment *now);
 
-enum { ROOM = 65536 + 64, RECORD = 40, RECORDS = 256, LIST = RECORD * RECORDS, MONOTONIC = 1, ROUNDS = 31 };
+enum { OBS_TIME = 15, ROOM = 65536 + 64, RECORD = 40, RECORDS = 256, LIST = RECORD * RECORDS, MONOTONIC = 1, ROUNDS = 31 };
 #define ROUND_NANOSECONDS 3000000
 
 static uint8_t report[ROOM], proved_output[ROOM], plain_output[ROOM], list[LIST + RECORD];
@@ -39,22 +41,36 @@ APART check_proved(void) { sink = kyrr_check(report, length).observations; }
 APART check_plain(void) { sink = plain_check(report, length).observations; }
 APART pack_proved(void) { sink = kyrr_pack(report, length, proved_output, ROOM).length; }
 APART pack_plain(void) { sink = plain_pack(report, length, plain_output, ROOM).length; }
+APART time_proved(void) { sink = (uint64_t)kyrr_value(report, length, 1, OBS_TIME).whole; }
+APART time_plain(void) { sink = (uint64_t)plain_obs_time(report, length, 1).day; }
 APART write_first_proved(void) { sink = kyrr_night_write(report, length, 1, proved_output, LIST).refused; }
 APART write_first_plain(void) { sink = plain_night_write(report, length, 1, plain_output, LIST).refused; }
 APART write_last_proved(void) { sink = kyrr_night_write(report, length, rows, proved_output, LIST).refused; }
 APART write_last_plain(void) { sink = plain_night_write(report, length, rows, plain_output, LIST).refused; }
+APART write_all_proved(void)
+{
+    for (uint64_t row = 1; row <= rows; row++)
+        sink = kyrr_night_write(report, length, row, proved_output, LIST).refused;
+}
+APART write_all_plain(void)
+{
+    for (uint64_t row = 1; row <= rows; row++)
+        sink = plain_night_write(report, length, row, plain_output, LIST).refused;
+}
 APART list_check_proved(void) { sink = kyrr_night_check(list, LIST).records; }
 APART list_check_plain(void) { sink = plain_night_check(list, LIST).records; }
 APART list_read_proved(void) { sink = kyrr_night_read(list, LIST, RECORDS).number; }
 APART list_read_plain(void) { sink = plain_night_read(list, LIST, RECORDS).number; }
 APART finished(void) { sink = 0; }
 
-enum { CALLS = 12 };
+enum { CALLS = 16 };
 static struct { const char *name; call *call; } calls[CALLS] = {
     { "check_proved", check_proved }, { "check_plain", check_plain },
     { "pack_proved", pack_proved }, { "pack_plain", pack_plain },
+    { "time_proved", time_proved }, { "time_plain", time_plain },
     { "write_first_proved", write_first_proved }, { "write_first_plain", write_first_plain },
     { "write_last_proved", write_last_proved }, { "write_last_plain", write_last_plain },
+    { "write_all_proved", write_all_proved }, { "write_all_plain", write_all_plain },
     { "list_check_proved", list_check_proved }, { "list_check_plain", list_check_plain },
     { "list_read_proved", list_read_proved }, { "list_read_plain", list_read_plain }
 };
@@ -79,6 +95,15 @@ static int same_pack(size_t bytes, size_t room)
     return memcmp(&proved, &plain, sizeof proved) == 0 && memcmp(proved_output, plain_output, ROOM) == 0;
 }
 
+/* Compares the values of obsTime on the first bytes of the report. */
+static int same_time(size_t bytes, uint64_t observation)
+{
+    kyrr_valued proved = kyrr_value(report, bytes, observation, OBS_TIME);
+    plain_timed plain = plain_obs_time(report, bytes, observation);
+    return proved.refused == plain.refused && proved.line == plain.line && proved.place == plain.place
+        && proved.kind == (plain.refused ? 0 : KYRR_TIME) && proved.whole == plain.day && proved.part == plain.microseconds;
+}
+
 /* Compares the answers of a record's writing on the first bytes of the report and every byte of the outputs. */
 static int same_write(size_t bytes, uint64_t observation, size_t room)
 {
@@ -94,7 +119,8 @@ static int same_write(size_t bytes, uint64_t observation, size_t room)
 /* Compares all answers on the first bytes of the report. */
 static int same_report(size_t bytes)
 {
-    return same_check(bytes) && same_pack(bytes, ROOM) && same_write(bytes, 1, LIST) && same_write(bytes, rows, LIST);
+    return same_check(bytes) && same_pack(bytes, ROOM) && same_time(bytes, 1) && same_time(bytes, rows)
+        && same_write(bytes, 1, LIST) && same_write(bytes, rows, LIST);
 }
 
 /* Compares the answers of a check and a reading of the first bytes of the list. */
@@ -160,6 +186,12 @@ static void make_list(void)
     }
 }
 
+static int usage(void)
+{
+    printf("usage: drive REPORT compare|time CALL|CALL\n");
+    return 2;
+}
+
 static int64_t now(void)
 {
     moment read;
@@ -185,38 +217,47 @@ static double least(const double *rounds)
     return found;
 }
 
-/* The calls take turns, round by round, so that all of them meet the same load of the machine. */
-static int time_calls(void)
+/* The place of the call of that name in the table; past the last where there is none. */
+static int place_of(const char *name)
 {
-    static double rounds[CALLS][ROUNDS];
-    int64_t times[CALLS];
-    for (int which = 0; which < CALLS; which++)
-        times[which] = 1 + (int64_t)(ROUND_NANOSECONDS / (1 + per_call(calls[which].call, 3)));
+    int which = 0;
+    while (which < CALLS && strcmp(name, calls[which].name) != 0)
+        which++;
+    return which;
+}
+
+/* The call and the one after it take turns, round by round, so that both meet the same load of the machine. */
+static int time_calls(int first)
+{
+    static double rounds[2][ROUNDS];
+    int64_t times[2];
+    if (first + 1 >= CALLS)
+        return usage();
+    for (int which = 0; which < 2; which++)
+        times[which] = 1 + (int64_t)(ROUND_NANOSECONDS / (1 + per_call(calls[first + which].call, 3)));
     for (int round = 0; round < ROUNDS; round++)
-        for (int which = 0; which < CALLS; which++)
-            rounds[which][round] = per_call(calls[which].call, times[which]);
-    for (int which = 0; which < CALLS; which++)
+        for (int which = 0; which < 2; which++)
+            rounds[which][round] = per_call(calls[first + which].call, times[which]);
+    for (int which = 0; which < 2; which++)
         printf("%.0f\n", least(rounds[which]));
     return 0;
 }
 
 int main(int words, char **word)
 {
-    int file = words == 3 ? open(word[1], 0) : -1;
-    if (file < 0) {
-        printf("usage: drive REPORT compare|time|CALL\n");
-        return 2;
-    }
+    int file = words == 3 || words == 4 ? open(word[1], 0) : -1;
+    if (file < 0)
+        return usage();
     length = (size_t)read(file, report, ROOM);
     rows = plain_check(report, length).observations;
     make_list();
+    if (words == 4)
+        return strcmp(word[2], "time") == 0 ? time_calls(place_of(word[3])) : usage();
     if (strcmp(word[2], "compare") == 0)
         return compare();
-    if (strcmp(word[2], "time") == 0)
-        return time_calls();
-    for (int which = 0; which < CALLS; which++)
-        if (strcmp(word[2], calls[which].name) == 0)
-            calls[which].call();
+    if (place_of(word[2]) == CALLS)
+        return usage();
+    calls[place_of(word[2])].call();
     finished();
     return 0;
 }

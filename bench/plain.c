@@ -912,6 +912,21 @@ static uint64_t microseconds(const uint8_t *value, size_t length)
     return seconds * SECOND + part;
 }
 
+plain_timed plain_obs_time(const uint8_t *report, size_t length, uint64_t observation)
+{
+    single asked;
+    outcome read;
+    const uint8_t *time;
+    asked.number = observation;
+    read = read_report(report, length, NULL, &asked);
+    if (read.refused)
+        return (plain_timed){ read.refused, read.line, read.place, 0, 0 };
+    if (observation == 0 || observation > read.observations)
+        return (plain_timed){ 16, 0, 0, 0, 0 };
+    time = report + (asked.values[OBS_TIME] >> 9);
+    return (plain_timed){ 0, 0, 0, day_number(time), microseconds(time, asked.values[OBS_TIME] & 511) };
+}
+
 /* The four bytes of a right stn as a number, low byte first. */
 static uint32_t station(const uint8_t *value, size_t length)
 {

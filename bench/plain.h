@@ -1,4 +1,4 @@
-/* A plain C implementation of checking, packing and the night list, written for speed and not proved. */
+/* A plain C implementation of checking, packing, the value of obsTime and the night list, written for speed and not proved. */
 #ifndef PLAIN_H
 #define PLAIN_H
 
@@ -8,6 +8,7 @@
 /* refused is 0 or the refusal number; the other members are 0 where they do not apply. */
 typedef struct { uint64_t refused, line, place, observations; } plain_checked;
 typedef struct { uint64_t refused, line, place, length; } plain_packed;
+typedef struct { uint64_t refused, line, place; int64_t day; uint64_t microseconds; } plain_timed;
 typedef struct { uint64_t refused, line, place; } plain_done;
 typedef struct { uint64_t refused, line, place, records; } plain_night_checked;
 typedef struct {
@@ -21,6 +22,9 @@ plain_checked plain_check(const uint8_t *report, size_t length);
 
 /* The output must not overlap the report. */
 plain_packed plain_pack(const uint8_t *report, size_t length, uint8_t *output, size_t output_length);
+
+/* The day number and the microseconds of the day of an observation's obsTime. */
+plain_timed plain_obs_time(const uint8_t *report, size_t length, uint64_t observation);
 
 /* The list must not overlap the report. 23 for a radar observation. */
 plain_done plain_night_write(const uint8_t *report, size_t length, uint64_t observation, uint8_t *list,

@@ -2,7 +2,8 @@
 
     python3 bench/shapes.py FOLDER
 
-writes one file for each shape into the folder, and prints the file's name and what the shape is.
+writes one file for each shape into the folder and prints the file's name; beside them one for each year in which obsTime is
+valued, `year-0001` and so on, which it does not print.
 """
 
 import pathlib
@@ -163,8 +164,21 @@ SHAPES = {"one-row": one_row, "plain-rows": plain_rows, "padded-rows": padded_ro
           "own-sets": own_sets, "whole-text": whole_text, "radar-rows": radar_rows, "mixed-kinds": mixed_kinds}
 
 
+# The years in which obsTime is valued.
+YEARS = (1, 1858, 2024, 9999)
+
+
+def one_row_in(year):
+    """One row, of that year."""
+    row = observation(1)
+    row["obsTime"] = f"{year:04}" + row["obsTime"][4:]
+    return block(PLAIN, [line(row, PLAIN)])
+
+
 def main(folder):
-    """Writes every shape."""
+    """Writes every shape and every year."""
+    for year in YEARS:
+        (folder / f"year-{year:04}").write_bytes(one_row_in(year).encode("ascii"))
     for name, shape in SHAPES.items():
         text = shape().encode("ascii")
         assert len(text) <= TEXT_LIMIT, name
