@@ -1,12 +1,15 @@
 """Cases on the form of each element: at its edges, one byte past them, with wrong bytes.
 
-`RIGHT` and `WRONG` are written by hand from document 01 and orders 2 and 3, not worked out, and the decimals of each
-width follow from how they are put together: the reference has to agree with all of them before a case is made.
+`RIGHT` and `WRONG` are written by hand from document 01 and orders 2 and 3, not worked out, the decimals of each
+width follow from how they are put together, and the day numbers at the turns of the calendar are those of Python's
+library: the reference has to agree with all of them before a case is made.
 """
 
+import datetime
+
 import ades
-from reports import (DELAY_SPECIMEN, SPECIMEN, block, delay_row, doppler_row, row, row_with, shuffled_columns, to_check,
-                     to_show, to_value)
+from reports import (DELAY_SPECIMEN, SPECIMEN, block, delay_row, doppler_row, row, row_with, shuffled_columns,
+                     small_row, to_check, to_show, to_value)
 
 BYTES_25 = b"abcdefghijklmnopqrstuvwxy"
 
@@ -467,8 +470,76 @@ def one_byte_other(chance):
                 yield to_check(report_around(chance, name, value[:at] + value[at + 1:])[0])
 
 
+# ---- the turns of the calendar (order 4)
+
+# Each month of a century that is no leap year, of one that is, of a common year and of a leap year.
+YEARS_BY_MONTH = (1900, 2000, 2023, 2024)
+# The end of February in every century, and about the cycles of 4 and of 400 years.
+YEARS_BY_FEBRUARY = (*range(100, 10_000, 100), 1, 3, 4, 5, 96, 104, 399, 401, 1996, 2020, 9996, 9999)
+# The beginning of years about centuries and about the same cycles.
+YEARS_BY_BEGINNING = (2, 3, 4, 5, 6, 8, 9, 97, 100, 101, 105, 400, 401, 405, 1600, 1601, 1700, 1701, 1901, 2001, 2025,
+                      2100, 2101, 2400, 2401, 9600, 9601, 9900, 9901, 9996, 9997, 9999)
+DAY_ZERO = datetime.date(1858, 11, 17)
+ONE_DAY = datetime.timedelta(days=1)
+
+# Days that do not exist, beside those in `WRONG`.
+NO_DAYS = (
+    # 29 February of common years, centuries among them; 30 February of leap years.
+    b"0001-02-29", b"0002-02-29", b"0003-02-29", b"0005-02-29", b"0100-02-29", b"0200-02-29", b"0300-02-29",
+    b"0399-02-29", b"0401-02-29", b"1700-02-29", b"1800-02-29", b"2021-02-29", b"2022-02-29", b"2200-02-29",
+    b"2300-02-29", b"9700-02-29", b"9900-02-29", b"9998-02-29", b"9999-02-29",
+    b"0004-02-30", b"0400-02-30", b"2000-02-30", b"9996-02-30",
+    # The day after the last of each month: in a common year, in a leap year.
+    b"2023-01-32", b"2023-02-30", b"2023-03-32", b"2023-04-31", b"2023-05-32", b"2023-06-31", b"2023-07-32",
+    b"2023-08-32", b"2023-09-31", b"2023-10-32", b"2023-11-31", b"2023-12-32",
+    b"2024-03-32", b"2024-05-32", b"2024-07-32", b"2024-08-32", b"2024-10-32",
+    # Day 00, month 00, months past 12, year 0000.
+    b"0001-01-00", b"1900-03-00", b"2000-03-00", b"2023-12-00",
+    b"0001-00-01", b"2023-00-31", b"2023-13-01", b"2024-14-01", b"2024-16-01", b"9999-13-01",
+    b"0000-02-29", b"0000-03-01", b"0000-12-31",
+)
+
+
+def first_days():
+    """The days after a turn, each once: they begin a month or a year, or are day number 0 or 1."""
+    months = {datetime.date(year, month, 1) for year in YEARS_BY_MONTH for month in range(1, 13)}
+    ends_of_february = {datetime.date(year, 3, 1) for year in YEARS_BY_FEBRUARY}
+    beginnings = {datetime.date(year, 1, 1) for year in YEARS_BY_BEGINNING}
+    return sorted(months | ends_of_february | beginnings | {DAY_ZERO, DAY_ZERO + ONE_DAY})
+
+
+def seconds_about_turns():
+    """The last second before each turn and the first one after it, with its microseconds; those of the calendar's own
+    ends too."""
+    first, last = (b"T00:00:00Z", 0), (b"T23:59:59Z", 86_399_000_000)
+    yield datetime.date.min, *first
+    for day in first_days():
+        yield day - ONE_DAY, *last
+        yield day, *first
+    yield datetime.date.max, *last
+
+
+def turns_of_the_calendar():
+    """Times about the turns, valued: the day number is that of Python's library."""
+    for date, clock, microseconds in seconds_about_turns():
+        report = block([small_row(obsTime=date.isoformat().encode() + clock)])
+        day_number = date.toordinal() - DAY_ZERO.toordinal()
+        assert ades.value(report, 1, 15) == ("time", day_number, microseconds), date
+        yield to_value(report, 1, 15)
+
+
+def days_that_do_not_exist():
+    """10 at the fourth column, where obsTime stands."""
+    for date in NO_DAYS:
+        report = block([small_row(obsTime=date + b"T00:00:00Z")])
+        assert ades.value(report, 1, 15) == ades.refused(10, 3, 4), date
+        yield to_value(report, 1, 15)
+
+
 def cases(chance):
     """All cases of this file."""
     yield from right_cases(chance)
     yield from wrong_cases(chance)
     yield from one_byte_other(chance)
+    yield from turns_of_the_calendar()
+    yield from days_that_do_not_exist()

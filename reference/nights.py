@@ -144,6 +144,22 @@ TIMES = [
     (b"2038-04-24T12:00:00.5Z", 65_537, 43_200_500_000),
 ]
 
+# The same at the turns of the calendar.
+TURNS = [
+    (b"0001-12-31T23:59:59.999999Z", -678_211, 86_399_999_999),
+    (b"0004-02-29T00:00:00Z", -677_421, 0),
+    (b"0004-12-31T12:00:00Z", -677_115, 43_200_000_000),
+    (b"0100-03-01T00:00:00.1Z", -642_357, 100_000),
+    (b"0400-02-29T23:59:59Z", -532_785, 86_399_000_000),
+    (b"1900-03-01T00:00:00Z", 15_079, 0),
+    (b"2000-02-29T23:59:59.999999Z", 51_603, 86_399_999_999),
+    (b"2000-12-31T00:00:01Z", 51_909, 1_000_000),
+    (b"2024-03-01T00:00:00Z", 60_370, 0),
+    (b"2024-12-31T01:00:00Z", 60_675, 3_600_000_000),
+    (b"9996-12-31T23:59:59Z", 2_972_388, 86_399_000_000),
+    (b"9999-01-01T00:00:00Z", 2_973_119, 0),
+]
+
 RIGHT_ASCENSIONS = [
     (b"0", 0), (b"0.0", 0), (b"0.000000001", 1), (b"0.1", 100_000_000), (b"4.294967295", 4_294_967_295),
     (b"4.294967296", 4_294_967_296), (b"10.50", 10_500_000_000), (b"359", 359_000_000_000),
@@ -163,19 +179,36 @@ DECLINATIONS = [
 ]
 
 
+def with_value(chance, changes, start, field):
+    """A case that writes the last of one to three observations, the one that is changed; its record has the field
+    from that byte on."""
+    count = chance.randint(1, 3)
+    rows = [row()] * (count - 1) + [row(**changes)]
+    report = block(rows, shuffled_columns(chance, rows, 1), chance)
+    _, after = night.write(report, count, bytes(RECORD_LENGTH * count))
+    assert after[-RECORD_LENGTH:][start:start + len(field)] == field, changes
+    return written(chance, report, count, RECORD_LENGTH * count + chance.randint(0, 9))
+
+
+def with_times(times):
+    """Each time as a change, where it goes in a record, and the bytes that go there."""
+    return [({"obsTime": text}, 8, of_number(day, 4) + of_number(part, 8)) for text, day, part in times]
+
+
 def worths(chance):
-    """Stations, times and angles at their ends, each the last of one to three observations."""
+    """Stations, times and angles at their ends."""
     for changes, start, field in (
             *(({"stn": text}, 4, text.ljust(4)) for text in STATIONS),
-            *(({"obsTime": text}, 8, of_number(day, 4) + of_number(part, 8)) for text, day, part in TIMES),
+            *with_times(TIMES),
             *(({"ra": text}, 20, of_number(number, 8)) for text, number in RIGHT_ASCENSIONS),
             *(({"dec": text}, 28, of_number(number, 8)) for text, number in DECLINATIONS)):
-        count = chance.randint(1, 3)
-        rows = [row()] * (count - 1) + [row(**changes)]
-        report = block(rows, shuffled_columns(chance, rows, 1), chance)
-        _, after = night.write(report, count, bytes(RECORD_LENGTH * count))
-        assert after[-RECORD_LENGTH:][start:start + len(field)] == field, changes
-        yield written(chance, report, count, RECORD_LENGTH * count + chance.randint(0, 9))
+        yield with_value(chance, changes, start, field)
+
+
+def turns_of_the_calendar(chance):
+    """Times at the turns of the calendar (order 4)."""
+    for changes, start, field in with_times(TURNS):
+        yield with_value(chance, changes, start, field)
 
 
 def writes_by_chance(chance):
@@ -387,5 +420,5 @@ def cases(chance):
     for kind in (lengths, no_such_observation, refused_reports, radar_observations, refused_radar_reports,
                  nights_of_both_kinds, worths, writes_by_chance, ends_of_numbers,
                  bytes_that_are_settled, stations, changed_bytes, short_ends, several_bad, record_numbers, long_lists,
-                 written_lists):
+                 written_lists, turns_of_the_calendar):
         yield from kind(chance)
