@@ -1,6 +1,6 @@
 -- Every day number from that of the first date on to that of the last is that of a date, and no date has another.
 use mathlib.Core.Path.{_≡_, refl, sym, ap}
-use mathlib.Core.Bool.{Bool, true, false, cond, _&&_}
+use mathlib.Core.Bool.{Bool, true, false, cond}
 use Prim.Native.Nat.{ℕ, zero, suc, _+_, _-_, _≤_, _<_}
 use native.Mathlib.Omega.{arith}
 use lib.Dec.{leb, ltb}
@@ -8,47 +8,10 @@ use lib.IntN.{ℤ, pos, negsuc, subℕ}
 use lib.Signed.{mag}
 use borrow.Author.Tests.{le-leb, leb-true, ltb-true, ltb-false, lt-ltb, le-ltb}
 use Rattle.text.proofs.Bools.{bools, both}
+use Rattle.value.proofs.Days.{DateParts, date-parts, parts-date}
 use Rattle.value.specs.Calendar.{isLeap, yearLength, yearDays, monthLength, monthDays, isDate, dayNumber}
 use Rattle.night.specs.Record.{isDay}
 use Rattle.night.proofs.DayLimits.{first-is, last-is, years}
-
--- The parts of a date.
-pub record DateParts (year month day : ℕ) : Type 0 where
-  pub low-year : 1 ≤ year
-  pub high-year : year ≤ 9999
-  pub low-month : 1 ≤ month
-  pub high-month : month ≤ 12
-  pub low-day : 1 ≤ day
-  pub high-day : day ≤ monthLength (isLeap year) month
-
-pub date-parts : (y m d : ℕ) → isDate y m d ≡ true → DateParts y m d
-unfolding isDate
-date-parts y m d h =
-    let a = both (leb 1 y && leb y 9999 && leb 1 m && leb m 12 && leb 1 d) (leb d (monthLength (isLeap y) m)) h in
-    let b = both (leb 1 y && leb y 9999 && leb 1 m && leb m 12) (leb 1 d) (a .0) in
-    let c = both (leb 1 y && leb y 9999 && leb 1 m) (leb m 12) (b .0) in
-    let e = both (leb 1 y && leb y 9999) (leb 1 m) (c .0) in
-    let f = both (leb 1 y) (leb y 9999) (e .0) in
-    record {
-      low-year = leb-true 1 y (f .0);
-      high-year = leb-true y 9999 (f .1);
-      low-month = leb-true 1 m (e .1);
-      high-month = leb-true m 12 (c .1);
-      low-day = leb-true 1 d (b .1);
-      high-day = leb-true d (monthLength (isLeap y) m) (a .1);
-    }
-
-parts-date : (y m d : ℕ) → DateParts y m d → isDate y m d ≡ true
-unfolding isDate
-parts-date y m d p =
-    rw (
-      le-leb 1 y (p .low-year),
-      le-leb y 9999 (p .high-year),
-      le-leb 1 m (p .low-month),
-      le-leb m 12 (p .high-month),
-      le-leb 1 d (p .low-day),
-      le-leb d (monthLength (isLeap y) m) (p .high-day),
-    )
 
 -- Days before a month and before a year.
 month-next : (l : Bool) (m : ℕ) → monthDays l (suc m) ≡ monthDays l m + monthLength l (suc m)

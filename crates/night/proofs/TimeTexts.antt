@@ -13,9 +13,8 @@ use Rattle.value.specs.Calendar.{isDate, dayNumber, isLeap}
 use Rattle.value.specs.Numeral.{digits, part}
 use Rattle.value.specs.Time.{isFraction, isTimeEnd, isTime, isMoment, dayOf, fraction, microseconds, obsTime}
 use Rattle.value.specs.declared.Value.the-variants.{Time}
-use Rattle.value.proofs.Days.{month-length-small}
+use Rattle.value.proofs.Days.{date-parts, month-length-small}
 use Rattle.night.proofs.Spell.{spell, timeText}
-use Rattle.night.proofs.Dates.{date-parts}
 use Rattle.night.proofs.SpellLaws.{spell-is, spell-leading, spell-starts, spell-solid, Solid}
 
 -- The text from the fraction on, from the seconds on, and so forth.

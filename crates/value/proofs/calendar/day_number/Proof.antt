@@ -4,26 +4,32 @@ use borrow.Author.Needs.{needs}
 use lib.Dec.{lit≤}
 use mathlib.Core.Path.{_∙_}
 use native.Mathlib.Omega.{arith}
-use Rattle.value.proofs.Days.{month-small, year-small}
+use Rattle.value.proofs.Days.{DateParts, date-parts, month-length-small, month-small, year-small}
 use Rattle.value.proofs.Signs.{less-fits, less-is}
 use Rattle.value.proofs.calendar.day_number.Statement.{statement}
-use Rattle.value.specs.Calendar.{dayNumber}
+use Rattle.value.specs.Calendar.{dayNumber, isLeap}
 use Rattle.value.proofs.calendar.day_number.Tie as tie
 
-small : (c : tie.After-month-days) → c .before .before .year-days .result + c .month-days .result ≤ 3663000
+date : (c : tie.Start) → DateParts (c .args .year) (c .args .month) (c .args .day)
+date c = date-parts (c .args .year) (c .args .month) (c .args .day) (c .pre)
+
+small : (c : tie.After-month-days) → c .before .before .year-days .result + c .month-days .result + c .before .before .before .args .day ≤ 3663000
 small c =
-    let years = c .before .before .year-days in
     let args = c .before .before .before .args in
-    omega (arith, years .ensures, year-small (args .year), c .month-days .ensures, month-small (c .before .is-leap .result) (args .month - 1))
+    let parts = date (c .before .before .before) in
+    let years = year-small (args .year) in
+    let months = month-small (c .before .is-leap .result) (args .month - 1) in
+    let days = month-length-small (isLeap (args .year)) (args .month) in
+    omega (arith, c .before .before .year-days .ensures, years, c .month-days .ensures, months, days, parts .high-year, parts .high-month, parts .high-day)
 
 year-days-requires : tie.Need-year-days-requires
-year-days-requires c κs = search needs
+year-days-requires c κs = (date c .low-year, date c .high-year)
 
 is-leap-requires : tie.Need-is-leap-requires
 is-leap-requires c κs = search needs
 
 month-days-requires : tie.Need-month-days-requires
-month-days-requires c κs = search needs
+month-days-requires c κs = (date (c .before .before) .low-month, date (c .before .before) .high-month)
 
 add-days : tie.Need-add-days
 add-days c = omega (arith, small c)

@@ -1,65 +1,47 @@
--- `value::calendar::month_days` meets its contract. The invariant: the days so far are those of the months passed.
-use Prim.Native.Nat.{_+_, _-_, _≤_, zero-le}
+-- `value::calendar::month_days` meets its contract.
+use Prim.Native.Nat.{_+_, _-_}
 use borrow.Author.Needs.{needs}
-use mathlib.Core.Path.{_∙_, _≡_, ap, refl}
+use mathlib.Core.Path.{_≡_}
 use native.Mathlib.Omega.{arith}
-use Rattle.value.proofs.Days.{month-length-small, month-small, month-step}
+use lib.ListN.{getD}
+use Rattle.value.proofs.Days.{month-small, months-direct, monthStarts, with-leap-day, without-leap-day}
 use Rattle.value.proofs.calendar.month_days.Statement.{statement}
 use Rattle.value.specs.Calendar.{monthDays}
 use Rattle.value.proofs.calendar.month_days.Tie as tie
 
-abbrev Inv-loop : tie.InvT-loop
-Inv-loop leap month days₀ i₀ days i = (i ≤ month - 1) × (days ≡ monthDays leap i)
+march-on : (c : tie.Then1) → getD monthStarts (c .before .args .month - 1) 0 + 1 ≡ monthDays (c .before .args .leap) (c .before .args .month - 1)
+march-on c =
+    let entry = c .before in
+    with-leap-day (entry .args .leap) (entry .args .month) (entry .pre .0) (entry .pre .1) (c .if1 .taken)
 
-abbrev μ-loop : tie.MeasureT-loop
-μ-loop leap month days₀ i₀ days i = month - i
+sub-place : tie.Need-sub-place
+sub-place c = search needs
 
-loop-holds : tie.Need-loop-holds Inv-loop μ-loop
-unfolding monthDays
-loop-holds c = (zero-le, refl)
+mul-start : tie.Need-mul-start
+mul-start c = search needs
 
-add-loop : tie.Need-add-loop Inv-loop μ-loop
-add-loop c = search needs
+array-read-start : tie.Need-array-read-start
+array-read-start c = search needs
 
-add-i : tie.Need-add-i Inv-loop μ-loop
-add-i c = search needs
+cast-start : tie.Need-cast-start
+cast-start c =
+    let leap = c .args .leap in
+    let month = c .args .month in
+    omega (arith, months-direct leap month (c .pre .0) (c .pre .1), month-small leap (month - 1), c .pre .1)
 
-month-length-requires : tie.Need-month-length-requires Inv-loop μ-loop
-month-length-requires c κs = search needs
+add-result : tie.Need-add-result
+add-result c =
+    let entry = c .before in
+    omega (arith, march-on c, month-small (entry .args .leap) (entry .args .month - 1), entry .pre .1)
 
-add-days : tie.Need-add-days Inv-loop μ-loop
-add-days c =
-    let args = c .before .before .before .args in
-    let loop = c .before .before .loop in
-    omega (arith, c .month-length .ensures, month-length-small (args .leap) (loop .i + 1), month-small (args .leap) (loop .i), loop .inv .1)
+returns : tie.Need-returns
+returns c = march-on c
 
-loop-less : tie.Need-loop-less Inv-loop μ-loop
-loop-less c = search needs
-
-loop-again : tie.Need-loop-again Inv-loop μ-loop
-loop-again c =
-    let args = c .before .before .before .args in
-    let loop = c .before .before .loop in
-    (omega arith, rw (month-step (args .leap) (loop .i), loop .inv .1, c .month-length .ensures))
-
-returns : tie.Need-returns Inv-loop μ-loop
-returns c =
-    let loop = c .before .loop in
-    let args = c .before .before .args in
-    let e : loop .i ≡ args .month - 1 = omega arith in
-    loop .inv .1 ∙ ap (monthDays (args .leap)) e
+returns-2 : tie.Need-returns-2
+returns-2 c =
+    let entry = c .before in
+    without-leap-day (entry .args .leap) (entry .args .month) (entry .pre .0) (entry .pre .1) (c .if1 .left)
 
 pub month-days-spec : {M : Type 1} → statement M
 month-days-spec =
-    tie.close
-    (tie.spec
-    Inv-loop
-    μ-loop
-    loop-holds
-    add-loop
-    add-i
-    month-length-requires
-    add-days
-    loop-less
-    loop-again
-    returns)
+    tie.close (tie.spec sub-place mul-start array-read-start cast-start add-result returns returns-2)

@@ -4,10 +4,11 @@ use mathlib.Core.Path.{_≡_}
 use mir.Facts.{toZ-ofZ}
 use mir.Syntax.{w64}
 use mir.Val.{ofZ, toZ}
-use native.Mathlib.Omega.{arith}
-use Rattle.value.proofs.Numerals.{part-below}
+use Rattle.text.proofs.Bools.{both}
 use Rattle.value.proofs.time.day_of.Statement.{statement}
-use Rattle.value.specs.Time.{dayOf}
+use Rattle.value.specs.Calendar.{isClock, isDate}
+use Rattle.value.specs.Numeral.{part}
+use Rattle.value.specs.Time.{dayOf, isMoment}
 use Rattle.value.proofs.time.day_of.Tie as tie
 
 part-requires : tie.Need-part-requires
@@ -20,11 +21,12 @@ part-requires-3 : tie.Need-part-requires-3
 part-requires-3 c κs = search needs
 
 day-number-requires : tie.Need-day-number-requires
+unfolding isMoment
 day-number-requires c κs =
-    let args = c .before .before .before .before .args in
-    let the-part = c .before .before .part in
-    let s = args .text .now in
-    (omega (arith, the-part .ensures, part-below 0 4 s), omega (arith, c .before .part2 .ensures, part-below 5 2 s), omega (arith, c .part3 .ensures, part-below 8 2 s))
+    let start = c .before .before .before .before in
+    let s = start .args .text .now in
+    rw (c .before .before .part .ensures, c .before .part2 .ensures, c .part3 .ensures)
+    (both (isDate (part 0 4 s) (part 5 2 s) (part 8 2 s)) (isClock (part 11 2 s) (part 14 2 s) (part 17 2 s)) (start .pre) .0)
 
 returns : tie.Need-returns
 unfolding dayOf

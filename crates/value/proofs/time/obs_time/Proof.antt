@@ -1,13 +1,19 @@
 -- `value::time::obs_time` meets its contract.
+use mathlib.Core.Bool.{true}
 use mathlib.Core.Path.{_≡_}
 use mir.Facts.{toZ-ofZ}
 use mir.Syntax.{w64}
 use mir.Val.{ofZ, toZ}
 use Rattle.value.proofs.Checks.{found-fault, found-time}
-use Rattle.value.specs.Time.{obsTime}
+use Rattle.value.specs.Time.{isMoment, isTime, obsTime}
 use borrow.Author.Needs.{needs}
 use Rattle.value.proofs.time.obs_time.Statement.{statement}
 use Rattle.value.proofs.time.obs_time.Tie as tie
+
+passed : (c : tie.Then1) → (isTime (c .before .before .before .before .args .text .now) ≡ true) × (isMoment (c .before .before .before .before .args .text .now) ≡ true)
+passed c =
+    let start = c .before .before .before .before in
+    found-time _ _ (c .before .is-fine .ensures) (start .args .text .now) (c .before .before .check-time .ensures) (c .if1 .taken)
 
 check-time-requires : tie.Need-check-time-requires
 check-time-requires c κs = search needs
@@ -16,7 +22,7 @@ is-fine-requires : tie.Need-is-fine-requires
 is-fine-requires c κs = search needs
 
 day-of-requires : tie.Need-day-of-requires
-day-of-requires c κs = search needs
+day-of-requires c κs = passed c .1
 
 microseconds-requires : tie.Need-microseconds-requires
 microseconds-requires c κs = search needs
@@ -24,7 +30,7 @@ microseconds-requires c κs = search needs
 returns : tie.Need-returns
 unfolding obsTime
 returns c =
-    let right = found-time _ _ (c .before .before .before .is-fine .ensures) (c .before .before .before .before .before .before .args .text .now) (c .before .before .before .before .check-time .ensures) (c .before .before .if1 .taken) in
+    let right = passed (c .before .before) in
     let day-of = c .before .day-of in
     let e : toZ w64 (ofZ w64 (day-of .result)) ≡ day-of .result = toZ-ofZ (record { sfits = day-of .ok }) in
     rw (e, day-of .ensures, c .microseconds .ensures, right .0, right .1)
