@@ -98,7 +98,7 @@ pub fn line_end() {
 
 // Prints the box's name and version.
 pub fn version() {
-    bytes(b"kyrrbolda 1.3");
+    bytes(b"kyrrbolda 1.4");
 }
 
 // Prints `accepted N`, or the refusal.
