@@ -27,7 +27,8 @@ import reports  # noqa: E402
 GUARD = 64
 FENCE = bytes(range(0xC0, 0xC0 + GUARD))  # stands before and after a lent list
 ARCHIVE = HERE.parent / "target" / "staticlib" / "libkyrrbolda.a"
-KINDS = {"no value": 0, "absent": 1, "whole": 2, "decimal": 3, "time": 4, "angle": 5}
+KINDS = {"no value": 0, "absent": 1, "whole": 2, "decimal": 3, "time": 4, "angle": 5, "scaled": 6}
+LOW = 10_000_000_000  # a covariance's whole number is high times this and low
 
 
 class Answer(ctypes.Structure):
@@ -50,7 +51,9 @@ class Shown(Answer):
 
 class Valued(Answer):
     """kyrr_valued."""
-    _fields_ = Shown._fields_[:3] + [("kind", ctypes.c_uint64), ("whole", ctypes.c_int64), ("part", ctypes.c_uint64)]
+    _fields_ = Shown._fields_[:3] + [
+        ("kind", ctypes.c_uint64), ("whole", ctypes.c_int64), ("part", ctypes.c_uint64),
+        ("negative", ctypes.c_uint64), ("high", ctypes.c_uint64), ("low", ctypes.c_uint64), ("power", ctypes.c_int64)]
 
 
 class Done(Answer):
@@ -127,6 +130,15 @@ def compare_pack(functions, report, room, filling):
         assert output.raw == packed + bytes([filling]) * (room + GUARD - len(packed)), (report, room)
 
 
+def of_value(answer):
+    """The members whole, part, negative, high, low and power; of a covariance the first two are 0, of any other
+    value the last four."""
+    if answer[0] != "scaled":
+        return (*answer[1:], 0, 0)[:2] + (0, 0, 0, 0)
+    _, number, power = answer
+    return 0, 0, int(number < 0), abs(number) // LOW, abs(number) % LOW, power
+
+
 def compare_request(functions, report, observation, element):
     """The answers to a show and to a value of the same element."""
     answer = ades.showing(report, observation, element)
@@ -134,9 +146,32 @@ def compare_request(functions, report, observation, element):
     given = functions.show(report, len(report), observation, element).members()
     assert given == members(answer, int(answer[0] == "absent"), *place), (report, answer, given)
     answer = ades.value(report, observation, element)
-    number = (*answer[1:], 0, 0)[:2]
     given = functions.value(report, len(report), observation, element).members()
-    assert given == members(answer, KINDS.get(answer[0]), *number), (report, answer, given)
+    assert given == members(answer, KINDS.get(answer[0]), *of_value(answer)), (report, answer, given)
+
+
+def random_covariance_text(chance):
+    """A covariance by chance, every second time with a byte of it another, left out or put in."""
+    text = reports.random_covariance(chance, 20)
+    if chance.random() < 0.5:
+        return text
+    at, byte = chance.randrange(len(text)), bytes([chance.choice(b"0123456789+-.eE dD_~")])
+    return chance.choice((text[:at] + byte + text[at + 1:], text[:at] + text[at + 1:], text[:at] + byte + text[at:]))
+
+
+def compare_covariances(functions, chance, report):
+    """The covariances of some observation of a report that is accepted; then one by chance, right or damaged, in a
+    report of its own."""
+    answer = ades.read(report)
+    if not ades.is_refused(answer) and answer[1]:
+        number = chance.randint(1, len(answer[1]))
+        for element in ades.COVARIANCES:
+            if element in answer[1][number - 1]:
+                compare_request(functions, report, number, element)
+    element = chance.choice(ades.COVARIANCES)
+    report = reports.block([{**reports.small_placed_row(), element: random_covariance_text(chance)}])
+    compare_check(functions, report)
+    compare_request(functions, report, 1, element)
 
 
 # ---- the night list
@@ -254,6 +289,7 @@ def compare_chance(functions, count):
         compare_check(functions, report)
         compare_pack(functions, report, chance.choice((0, len(report) // 2, len(report), 4000)), chance.randrange(256))
         compare_request(functions, report, chance.randrange(14), chance.randrange(len(ades.ELEMENTS) + 2))
+        compare_covariances(functions, chance, report)
         compare_nights(functions, chance, report)
         accepted += not ades.is_refused(ades.check(report))
     return accepted

@@ -6,9 +6,9 @@
  *     drive REPORT CALL               one call only, to count its instructions: the function of that name in the table; after it
  *                                     comes the function finished
  *
- * Beside checking and packing the calls value obsTime of the first observation, write the night list's record of the first and of
- * the last observation, which is refused where that is a radar one, and of all observations, each by its own call, check a list of
- * 256 records and read its last one.
+ * Beside checking and packing the calls value obsTime and posCov11 of the first observation, write the night list's record of the
+ * first and of the last observation, which is refused where that is a radar one, and of all observations, each by its own call,
+ * check a list of 256 records and read its last one.
  *
  * Declares the few functions of the C library that it needs, so that it can be built where only the linker's libraries of
  * x86-64 are. */
@@ -26,7 +26,8 @@ void *memset(void *bytes, int byte, size_t count);
 void *memcpy(void *to, const void *from, size_t count);
 int clock_gettime(int clock, moment *now);
 
-enum { OBS_TIME = 15, ROOM = 65536 + 64, RECORD = 40, RECORDS = 256, LIST = RECORD * RECORDS, MONOTONIC = 1, ROUNDS = 31 };
+enum { OBS_TIME = 15, POS_COV11 = 38, POS_COV33 = 43 }; /* numbers of elements */
+enum { ROOM = 65536 + 64, RECORD = 40, RECORDS = 256, LIST = RECORD * RECORDS, MONOTONIC = 1, ROUNDS = 31 };
 #define ROUND_NANOSECONDS 3000000
 
 static uint8_t report[ROOM], proved_output[ROOM], plain_output[ROOM], list[LIST + RECORD];
@@ -43,6 +44,8 @@ APART pack_proved(void) { sink = kyrr_pack(report, length, proved_output, ROOM).
 APART pack_plain(void) { sink = plain_pack(report, length, plain_output, ROOM).length; }
 APART time_proved(void) { sink = (uint64_t)kyrr_value(report, length, 1, OBS_TIME).whole; }
 APART time_plain(void) { sink = (uint64_t)plain_obs_time(report, length, 1).day; }
+APART covariance_proved(void) { sink = kyrr_value(report, length, 1, POS_COV11).low; }
+APART covariance_plain(void) { sink = plain_covariance(report, length, 1, POS_COV11).low; }
 APART write_first_proved(void) { sink = kyrr_night_write(report, length, 1, proved_output, LIST).refused; }
 APART write_first_plain(void) { sink = plain_night_write(report, length, 1, plain_output, LIST).refused; }
 APART write_last_proved(void) { sink = kyrr_night_write(report, length, rows, proved_output, LIST).refused; }
@@ -63,11 +66,12 @@ APART list_read_proved(void) { sink = kyrr_night_read(list, LIST, RECORDS).numbe
 APART list_read_plain(void) { sink = plain_night_read(list, LIST, RECORDS).number; }
 APART finished(void) { sink = 0; }
 
-enum { CALLS = 16 };
+enum { CALLS = 18 };
 static struct { const char *name; call *call; } calls[CALLS] = {
     { "check_proved", check_proved }, { "check_plain", check_plain },
     { "pack_proved", pack_proved }, { "pack_plain", pack_plain },
     { "time_proved", time_proved }, { "time_plain", time_plain },
+    { "covariance_proved", covariance_proved }, { "covariance_plain", covariance_plain },
     { "write_first_proved", write_first_proved }, { "write_first_plain", write_first_plain },
     { "write_last_proved", write_last_proved }, { "write_last_plain", write_last_plain },
     { "write_all_proved", write_all_proved }, { "write_all_plain", write_all_plain },
@@ -101,7 +105,23 @@ static int same_time(size_t bytes, uint64_t observation)
     kyrr_valued proved = kyrr_value(report, bytes, observation, OBS_TIME);
     plain_timed plain = plain_obs_time(report, bytes, observation);
     return proved.refused == plain.refused && proved.line == plain.line && proved.place == plain.place
-        && proved.kind == (plain.refused ? 0 : KYRR_TIME) && proved.whole == plain.day && proved.part == plain.microseconds;
+        && proved.kind == (plain.refused ? 0 : KYRR_TIME) && proved.whole == plain.day && proved.part == plain.microseconds
+        && proved.negative == 0 && proved.high == 0 && proved.low == 0 && proved.power == 0;
+}
+
+/* Compares the values of the six covariances on the first bytes of the report. */
+static int same_covariances(size_t bytes, uint64_t observation)
+{
+    int same = 1;
+    for (uint64_t element = POS_COV11; element <= POS_COV33; element++) {
+        kyrr_valued proved = kyrr_value(report, bytes, observation, element);
+        plain_scaled plain = plain_covariance(report, bytes, observation, element);
+        uint64_t kind = plain.refused ? 0 : plain.absent ? KYRR_ABSENT : KYRR_SCALED;
+        same = same && proved.refused == plain.refused && proved.line == plain.line && proved.place == plain.place
+            && proved.kind == kind && proved.whole == 0 && proved.part == 0 && proved.negative == plain.negative
+            && proved.high == plain.high && proved.low == plain.low && proved.power == plain.power;
+    }
+    return same;
 }
 
 /* Compares the answers of a record's writing on the first bytes of the report and every byte of the outputs. */
@@ -120,7 +140,8 @@ static int same_write(size_t bytes, uint64_t observation, size_t room)
 static int same_report(size_t bytes)
 {
     return same_check(bytes) && same_pack(bytes, ROOM) && same_time(bytes, 1) && same_time(bytes, rows)
-        && same_write(bytes, 1, LIST) && same_write(bytes, rows, LIST);
+        && same_covariances(bytes, 1) && same_covariances(bytes, rows) && same_write(bytes, 1, LIST)
+        && same_write(bytes, rows, LIST);
 }
 
 /* Compares the answers of a check and a reading of the first bytes of the list. */

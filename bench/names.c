@@ -21,7 +21,8 @@ enum { AROUND = 16, ROOM = AROUND + KYRR_NAME_LIMIT + AROUND };
 static const char *const names[KYRR_ELEMENTS] = {
     "permID", "provID", "artSat", "trkSub", "obsID", "obsSubID", "mode", "stn", "sys", "ctr", "pos1", "pos2", "pos3", "prog", "obsTime",
     "rmsTime", "ra", "dec", "rmsRA", "rmsDec", "rmsCorr", "astCat", "mag", "rmsMag", "band", "photCat", "photAp", "notes",
-    "remarks", "trx", "rcv", "delay", "rmsDelay", "doppler", "rmsDoppler", "frq", "com"
+    "remarks", "trx", "rcv", "delay", "rmsDelay", "doppler", "rmsDoppler", "frq", "com", "posCov11", "posCov12",
+    "posCov13", "posCov22", "posCov23", "posCov33"
 };
 static unsigned long calls, wrong;
 

@@ -1,25 +1,31 @@
-/* Checking and packing of ADES reports and the night list in plain C, written for speed and not proved:
- * the measure for the proved code. The report is read once, eight bytes at a time; where each value lies
+/* Checking, packing and a few values of ADES reports and the night list in plain C, written for speed and not
+ * proved: the measure for the proved code. The report is read once, eight bytes at a time; where each value lies
  * is kept; the cuts are searched over runs of rows with the same elements, in each stretch of one kind.
- * Needs gcc or clang. No memory is allocated; packing uses about 52 kB of stack. */
+ * Needs gcc or clang. No memory is allocated; packing uses about 58 kB of stack. */
 
 #include "plain.h"
 
 #include <string.h>
 
-enum { TEXT_LIMIT = 65536, ROW_LIMIT = 256, ELEMENTS = 37, VERSION_LENGTH = 14, RECORD_LENGTH = 40 };
+enum { TEXT_LIMIT = 65536, ROW_LIMIT = 256, ELEMENTS = 43, VERSION_LENGTH = 14, RECORD_LENGTH = 40 };
 
+/* The elements in the order of packed columns, which is not that of their numbers: number_of has these. */
 enum {
-    PERM_ID = 1, PROV_ID, ART_SAT, TRK_SUB, OBS_ID, OBS_SUB_ID, MODE, STN, SYS, CTR, POS1, POS2, POS3, PROG,
-    OBS_TIME, RMS_TIME, RA, DEC, RMS_RA, RMS_DEC, RMS_CORR, AST_CAT, MAG, RMS_MAG, BAND, PHOT_CAT, PHOT_AP,
-    NOTES, REMARKS, TRX, RCV, DELAY, RMS_DELAY, DOPPLER, RMS_DOPPLER, FRQ, COM
+    PERM_ID = 1, PROV_ID, ART_SAT, TRK_SUB, OBS_ID, OBS_SUB_ID, MODE, STN, SYS, CTR, POS1, POS2, POS3, POS_COV11,
+    POS_COV12, POS_COV13, POS_COV22, POS_COV23, POS_COV33, PROG, OBS_TIME, RMS_TIME, RA, DEC, RMS_RA, RMS_DEC,
+    RMS_CORR, AST_CAT, MAG, RMS_MAG, BAND, PHOT_CAT, PHOT_AP, NOTES, REMARKS, TRX, RCV, DELAY, RMS_DELAY, DOPPLER,
+    RMS_DOPPLER, FRQ, COM
 };
+
+enum { FIRST_COVARIANCE = 38 }; /* the number of posCov11; those of the others follow it */
 
 /* A set of elements: bit e stands for element e. */
 #define ONE(element) (UINT64_C(1) << (element))
 #define IDENTIFICATION (ONE(PERM_ID) | ONE(PROV_ID) | ONE(ART_SAT) | ONE(TRK_SUB))
 #define NEEDED (ONE(MODE) | ONE(STN) | ONE(OBS_TIME) | ONE(RA) | ONE(DEC) | ONE(AST_CAT))
 #define LOCATION (ONE(SYS) | ONE(CTR) | ONE(POS1) | ONE(POS2) | ONE(POS3))
+#define COVARIANCES (ONE(POS_COV11) | ONE(POS_COV12) | ONE(POS_COV13) | ONE(POS_COV22) | ONE(POS_COV23) \
+    | ONE(POS_COV33))
 #define PHOTOMETRY (ONE(MAG) | ONE(RMS_MAG) | ONE(BAND) | ONE(PHOT_CAT) | ONE(PHOT_AP))
 
 #define DELAY_PAIR (ONE(DELAY) | ONE(RMS_DELAY))
@@ -28,42 +34,59 @@ enum {
 #define RADAR (ONE(TRX) | ONE(RCV) | DELAY_PAIR | DOPPLER_PAIR | ONE(FRQ) | ONE(COM))
 #define RADAR_IDENTIFICATION (ONE(PERM_ID) | ONE(PROV_ID))
 #define RADAR_NEEDED (ONE(OBS_TIME) | ONE(TRX) | ONE(RCV) | ONE(FRQ) | ONE(COM))
-#define FOREIGN_TO_RADAR (ONE(ART_SAT) | ONE(TRK_SUB) | ONE(MODE) | ONE(STN) | LOCATION | ONE(RMS_TIME) | ONE(RA) \
-    | ONE(DEC) | ONE(RMS_RA) | ONE(RMS_DEC) | ONE(RMS_CORR) | ONE(AST_CAT) | PHOTOMETRY)
+#define FOREIGN_TO_RADAR (ONE(ART_SAT) | ONE(TRK_SUB) | ONE(MODE) | ONE(STN) | LOCATION | COVARIANCES \
+    | ONE(RMS_TIME) | ONE(RA) | ONE(DEC) | ONE(RMS_RA) | ONE(RMS_DEC) | ONE(RMS_CORR) | ONE(AST_CAT) | PHOTOMETRY)
 
 static const char version_line[] = "# version=2022\n";
 
 /* Each with zeros after it, so that sixteen bytes can be copied. */
 static const char names[ELEMENTS + 1][16] = {
     "", "permID", "provID", "artSat", "trkSub", "obsID", "obsSubID", "mode", "stn", "sys", "ctr", "pos1", "pos2",
-    "pos3", "prog", "obsTime", "rmsTime", "ra", "dec", "rmsRA", "rmsDec", "rmsCorr", "astCat", "mag", "rmsMag",
-    "band", "photCat", "photAp", "notes", "remarks", "trx", "rcv", "delay", "rmsDelay", "doppler", "rmsDoppler", "frq",
-    "com"
+    "pos3", "posCov11", "posCov12", "posCov13", "posCov22", "posCov23", "posCov33", "prog", "obsTime", "rmsTime", "ra",
+    "dec", "rmsRA", "rmsDec", "rmsCorr", "astCat", "mag", "rmsMag", "band", "photCat", "photAp", "notes", "remarks",
+    "trx", "rcv", "delay", "rmsDelay", "doppler", "rmsDoppler", "frq", "com"
 };
 
 static const uint8_t name_lengths[ELEMENTS + 1] = {
-    0, 6, 6, 6, 6, 5, 8, 4, 3, 3, 3, 4, 4, 4, 4, 7, 7, 2, 3, 5, 6, 7, 6, 3, 6, 4, 7, 6, 5, 7, 3, 3, 5,
+    0, 6, 6, 6, 6, 5, 8, 4, 3, 3, 3, 4, 4, 4, 8, 8, 8, 8, 8, 8, 4, 7, 7, 2, 3, 5, 6, 7, 6, 3, 6, 4, 7, 6, 5, 7, 3, 3, 5,
     8, 7, 10, 3, 3
 };
 
-/* The shortest and longest value of an alphanumeric, the longest of a free value, a decimal's width. */
+/* The shortest and longest value of an alphanumeric, the longest of a free value, a number's width. */
 static const uint16_t shortest[ELEMENTS + 1] = { [TRK_SUB] = 1, [OBS_ID] = 1, [STN] = 3, [PROG] = 1, [AST_CAT] = 1,
     [BAND] = 1, [PHOT_CAT] = 1, [NOTES] = 1, [TRX] = 3, [RCV] = 3 };
 static const uint16_t longest[ELEMENTS + 1] = { [TRK_SUB] = 8, [OBS_ID] = 25, [OBS_SUB_ID] = 25, [STN] = 4,
-    [CTR] = 9, [POS1] = 13, [POS2] = 13, [POS3] = 13, [PROG] = 2, [RMS_TIME] = 8, [RMS_RA] = 7, [RMS_DEC] = 7,
+    [CTR] = 9, [POS1] = 13, [POS2] = 13, [POS3] = 13, [POS_COV11] = 20, [POS_COV12] = 20, [POS_COV13] = 20,
+    [POS_COV22] = 20, [POS_COV23] = 20, [POS_COV33] = 20, [PROG] = 2, [RMS_TIME] = 8, [RMS_RA] = 7, [RMS_DEC] = 7,
     [RMS_CORR] = 13, [AST_CAT] = 8, [MAG] = 6, [RMS_MAG] = 6, [BAND] = 3, [PHOT_CAT] = 8, [PHOT_AP] = 6, [NOTES] = 6,
     [REMARKS] = 300, [TRX] = 4, [RCV] = 4, [DELAY] = 14, [RMS_DELAY] = 6, [DOPPLER] = 14, [RMS_DOPPLER] = 6,
     [FRQ] = 14 };
 
 /* Each name of at most eight bytes falls into a slot of its own: the top six bits of its word times this
  * multiplier, which was found by trying. Only rmsDoppler is longer. */
-#define NAME_MULTIPLIER UINT64_C(0x8316a90663e3a911)
+#define NAME_MULTIPLIER UINT64_C(0x3f94465a8bebc579)
 static const uint8_t name_slots[64] = {
-    4, 34, 6, 31, 0, 32, 20, 22, 28, 15, 0, 7, 33, 0, 10, 1, 0, 0, 29, 14, 24, 11, 12, 19, 13, 0, 23, 3, 0, 0, 0, 37,
-    18, 9, 0, 0, 0, 0, 21, 0, 2, 16, 0, 0, 0, 27, 30, 0, 26, 0, 8, 5, 0, 0, 0, 0, 0, 25, 0, 36, 0, 17, 0, 0
+    0, 32, 11, 0, 34, 37, 10, 31, 28, 0, 30, 15, 19, 3, 0, 9, 33, 0, 0, 0, 0, 21, 27, 0, 0, 12, 42, 18, 22, 38, 26, 23,
+    40, 0, 24, 29, 7, 25, 0, 2, 35, 0, 16, 0, 0, 14, 1, 13, 0, 20, 39, 4, 36, 43, 0, 0, 0, 0, 5, 0, 6, 17, 8, 0
 };
 
 static inline unsigned lowest(uint64_t set) { return (unsigned)__builtin_ctzll(set); }
+
+/* The number of an element: that of a covariance is above all others. */
+static inline unsigned number_of(unsigned element)
+{
+    if (element <= POS3)
+        return element;
+    return element <= POS_COV33 ? element - POS_COV11 + FIRST_COVARIANCE : element - (POS_COV33 - POS3);
+}
+
+/* The lowest number of an element of the set. */
+static inline unsigned lowest_number(uint64_t set)
+{
+    uint64_t others = set & ~COVARIANCES;
+    return number_of(lowest(others ? others : set));
+}
+
 static inline int is_radar(uint64_t set) { return (set & RADAR) != 0; }
 
 /* ---- eight bytes at a time */
@@ -304,6 +327,35 @@ static unsigned signed_decimal(const uint8_t *value, size_t length, size_t width
     return decimal(value + sign, length - sign, &bits) == NO_DECIMAL ? 9 : 0;
 }
 
+/* A signed decimal, optionally with `e` or `E`, an optional sign and one to three digits. After a value stands
+ * a blank, a bar or an LF, at which each search stops. */
+static unsigned scaled(const uint8_t *value, size_t length, size_t width)
+{
+    const uint8_t *end = value + length, *at = value + sign_of(value), *start = at;
+    size_t count;
+    if ((size_t)(end - start) > width)
+        return 8;
+    while (is_digit(*at))
+        at++;
+    count = (size_t)(at - start);
+    if (*at == '.') {
+        start = ++at;
+        while (is_digit(*at))
+            at++;
+        count += (size_t)(at - start);
+    }
+    if (count == 0)
+        return 9;
+    if (at == end)
+        return 0;
+    if ((*at | 0x20) != 'e')
+        return 9;
+    at++;
+    at += sign_of(at);
+    count = (size_t)(end - at);
+    return count - 1 < 3 && digits(at, count) == count ? 0 : 9;
+}
+
 static unsigned correlation(const uint8_t *value, size_t length)
 {
     unsigned bits, units;
@@ -405,6 +457,8 @@ static inline unsigned fault_of(unsigned element, const uint8_t *value, size_t l
     case RMS_CORR: return correlation(value, length);
     case COM: return flag(value, length);
     case POS1: case POS2: case POS3: case MAG: case DOPPLER: return signed_decimal(value, length, longest[element]);
+    case POS_COV11: case POS_COV12: case POS_COV13: case POS_COV22: case POS_COV23: case POS_COV33:
+        return scaled(value, length, longest[element]);
     case RMS_TIME: case RMS_RA: case RMS_DEC: case RMS_MAG: case PHOT_AP: case DELAY: case RMS_DELAY: case RMS_DOPPLER:
     case FRQ:
         return positive(value, length, longest[element]);
@@ -434,7 +488,7 @@ typedef struct { uint64_t number, set; uint32_t values[ELEMENTS + 1]; } single;
 typedef struct { uint32_t refused, line, place, observations; } outcome;
 
 /* One line parted at its bars: ends[f] is where field f ends. Of more fields than are noted only the first
- * ones are, which is enough: the 38th column name must be unknown or a repetition. */
+ * ones are, which is enough: the 44th column name must be unknown or a repetition. */
 enum { NOTED = ELEMENTS + 1 };
 typedef struct { size_t end; uint32_t fields; uint32_t ends[NOTED + 1]; } line;
 
@@ -521,7 +575,7 @@ static unsigned radar_lack(uint64_t set, uint32_t *place)
     uint64_t foreign = set & (FOREIGN_TO_RADAR | (doppler ? DELAY_PAIR : DOPPLER_PAIR));
     uint64_t missing = (RADAR_NEEDED | (doppler ? DOPPLER_PAIR : DELAY_PAIR)) & ~set;
     if (foreign) {
-        *place = lowest(foreign);
+        *place = lowest_number(foreign);
         return 22;
     }
     if (!(set & RADAR_IDENTIFICATION)) {
@@ -530,7 +584,7 @@ static unsigned radar_lack(uint64_t set, uint32_t *place)
     }
     if (!missing)
         return 0;
-    *place = lowest(missing);
+    *place = lowest_number(missing);
     return 11;
 }
 
@@ -547,21 +601,21 @@ static inline unsigned optical_lack(uint64_t set, uint32_t *place)
         return 11;
     }
     if ((missing = NEEDED & ~set)) {
-        *place = lowest(missing);
+        *place = lowest_number(missing);
         return 11;
     }
-    missing = set & LOCATION ? LOCATION & ~set : 0;
+    missing = set & (LOCATION | COVARIANCES) ? LOCATION & ~set : 0;
     if (!missing && set & PHOTOMETRY)
         missing = (ONE(MAG) | ONE(BAND)) & ~set;
     if (!missing && set & ONE(RMS_CORR))
         missing = (ONE(RMS_RA) | ONE(RMS_DEC)) & ~set;
     if (missing) {
-        *place = lowest(missing);
+        *place = lowest_number(missing);
         return 12;
     }
     if ((set & EARTH) != EARTH)
         return 0;
-    *place = CTR;
+    *place = number_of(CTR);
     return 13;
 }
 
@@ -873,6 +927,53 @@ plain_packed plain_pack(const uint8_t *report, size_t length, uint8_t *output, s
     }
     answer.length = total;
     return answer;
+}
+
+/* ---- the value of a covariance */
+
+/* A right value. Its last digit is held back from the others' whole number: nineteen digits fit into 64 bits. */
+static plain_scaled scale_of(const uint8_t *value)
+{
+    const uint8_t *at = value + sign_of(value), *places;
+    uint64_t whole = 0, last = 0;
+    plain_scaled answer = { 0, 0, 0, 0, 0, 0, 0, 0 };
+    while (is_digit(*at)) {
+        whole = 10 * whole + last;
+        last = *at++ - '0';
+    }
+    if (*at == '.') {
+        places = ++at;
+        while (is_digit(*at)) {
+            whole = 10 * whole + last;
+            last = *at++ - '0';
+        }
+        answer.power = places - at;
+    }
+    if ((*at | 0x20) == 'e') {
+        size_t sign = sign_of(at + 1);
+        int exponent = (int)number(at + 1 + sign, digits(at + 1 + sign, 3));
+        answer.power += at[1] == '-' ? -exponent : exponent;
+    }
+    answer.high = whole / 1000000000;
+    answer.low = 10 * (whole % 1000000000) + last;
+    answer.negative = value[0] == '-' && (answer.high | answer.low) != 0;
+    return answer;
+}
+
+plain_scaled plain_covariance(const uint8_t *report, size_t length, uint64_t observation, uint64_t element)
+{
+    single asked;
+    outcome read;
+    uint64_t place = element - FIRST_COVARIANCE + POS_COV11;
+    asked.number = observation;
+    read = read_report(report, length, NULL, &asked);
+    if (read.refused)
+        return (plain_scaled){ read.refused, read.line, read.place, 0, 0, 0, 0, 0 };
+    if (observation == 0 || observation > read.observations)
+        return (plain_scaled){ 16, 0, 0, 0, 0, 0, 0, 0 };
+    if (!(asked.set & ONE(place)))
+        return (plain_scaled){ 0, 0, 0, 1, 0, 0, 0, 0 };
+    return scale_of(report + (asked.values[place] >> 9));
 }
 
 /* ---- the night list */

@@ -1,4 +1,5 @@
-/* A plain C implementation of checking, packing, the value of obsTime and the night list, written for speed and not proved. */
+/* A plain C implementation of checking, packing, the values of obsTime and of covariances, and the night list, written for speed
+ * and not proved. */
 #ifndef PLAIN_H
 #define PLAIN_H
 
@@ -9,6 +10,7 @@
 typedef struct { uint64_t refused, line, place, observations; } plain_checked;
 typedef struct { uint64_t refused, line, place, length; } plain_packed;
 typedef struct { uint64_t refused, line, place; int64_t day; uint64_t microseconds; } plain_timed;
+typedef struct { uint64_t refused, line, place, absent, negative, high, low; int64_t power; } plain_scaled;
 typedef struct { uint64_t refused, line, place; } plain_done;
 typedef struct { uint64_t refused, line, place, records; } plain_night_checked;
 typedef struct {
@@ -25,6 +27,10 @@ plain_packed plain_pack(const uint8_t *report, size_t length, uint8_t *output, s
 
 /* The day number and the microseconds of the day of an observation's obsTime. */
 plain_timed plain_obs_time(const uint8_t *report, size_t length, uint64_t observation);
+
+/* The value of a covariance of an observation, element 38 to 43: high times 10,000,000,000 and low, times ten
+ * to the power, below zero where negative is 1. absent is 1 where the observation lacks it. */
+plain_scaled plain_covariance(const uint8_t *report, size_t length, uint64_t observation, uint64_t element);
 
 /* The list must not overlap the report. 23 for a radar observation. */
 plain_done plain_night_write(const uint8_t *report, size_t length, uint64_t observation, uint8_t *list,

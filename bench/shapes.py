@@ -3,7 +3,8 @@
     python3 bench/shapes.py FOLDER
 
 writes one file for each shape into the folder and prints the file's name; beside them one for each year in which obsTime is
-valued, `year-0001` and so on, which it does not print.
+valued, `year-0001` and so on, and one for each form in which a covariance is, `covariance-exponential` and so on, which it
+does not print.
 """
 
 import pathlib
@@ -21,7 +22,8 @@ USUAL = {"permID": 7, "provID": 11, "trkSub": 8, "mode": 4, "stn": 4, "obsTime":
 # Elements that any observation may have or not have: eight of them make 256 sets.
 FREE_TO_CHOOSE = ("obsID", "obsSubID", "prog", "rmsTime", "rmsRA", "rmsDec", "notes", "remarks")
 
-# Every element of an optical observation but artSat, whose values say nothing that the others do not.
+# Every element of an optical observation but artSat, whose values say nothing that the others do not, and the covariances,
+# which have their own shape.
 NEARLY_ALL = ("permID provID trkSub obsID obsSubID mode stn sys ctr pos1 pos2 pos3 prog obsTime rmsTime ra dec rmsRA "
               "rmsDec rmsCorr astCat mag rmsMag band photCat photAp notes remarks").split()
 
@@ -39,6 +41,18 @@ def observation(number):
         "rmsRA": "0.12", "rmsDec": f"0.{11 + number % 30}", "rmsCorr": "-0.05", "astCat": "Gaia2",
         "mag": f"{18 + number % 3}.{number % 10}", "rmsMag": "0.1", "band": "G", "photCat": "Gaia2", "photAp": "5.6",
         "notes": "K", "remarks": f"frame {number}"}
+
+
+def covariances_of(number):
+    """The six covariances of a roving station: longitude and latitude in degrees, known to some meters, and height in meters.
+    Three rows of four have small numbers in exponential form, the fourth has them in decimal form."""
+    east, north, up = 2_100 + 37 * number % 1_900, 1_300 + 53 * number % 1_700, 20 + number % 61
+    both = 11 * number % 900 - 450
+    if number % 4 == 3:
+        return {"posCov11": f"0.00000000{east}", "posCov12": f"{both / 1e12:.12f}", "posCov13": f"-0.00000{number:03}",
+                "posCov22": f"0.00000000{north}", "posCov23": f"+0.00000{number:03}", "posCov33": f"{up}.25"}
+    return {"posCov11": f"{east / 1_000:.3f}e-09", "posCov12": f"{both / 100:.2f}e-10", "posCov13": f"-{number}.5e-8",
+            "posCov22": f"{north / 1_000:.3f}E-9", "posCov23": f"+{number}.25E-8", "posCov33": f"{up}.{number % 10}e0"}
 
 
 def radar_observation(number):
@@ -66,6 +80,10 @@ def only(row, names):
 
 
 PLAIN = "trkSub mode stn obsTime ra dec astCat".split()
+
+# The columns of a roving station's row.
+ROVING = ("trkSub mode stn sys ctr pos1 pos2 pos3 posCov11 posCov12 posCov13 posCov22 posCov23 posCov33 obsTime ra dec "
+          "astCat").split()
 
 # The columns of a radar row with its delay, of one with its Doppler shift, and of both in one block.
 DELAY = "permID obsTime trx rcv delay rmsDelay frq com".split()
@@ -159,9 +177,20 @@ def mixed_kinds():
     return "".join(blocks)
 
 
+def roving_observation(number):
+    """A roving station's observation of that number, with its covariances."""
+    return observation(number) | {"stn": "247"} | covariances_of(number)
+
+
+def covariances():
+    """256 rows of a roving station, each with the six covariances of its place."""
+    return block(ROVING, [line(roving_observation(number), ROVING) for number in range(ROW_LIMIT)])
+
+
 SHAPES = {"one-row": one_row, "plain-rows": plain_rows, "padded-rows": padded_rows,
           "nearly-all-columns": nearly_all_columns, "long-remarks": long_remarks, "two-kinds": two_kinds,
-          "own-sets": own_sets, "whole-text": whole_text, "radar-rows": radar_rows, "mixed-kinds": mixed_kinds}
+          "own-sets": own_sets, "whole-text": whole_text, "radar-rows": radar_rows, "mixed-kinds": mixed_kinds,
+          "covariances": covariances}
 
 
 # The years in which obsTime is valued.
@@ -175,10 +204,21 @@ def one_row_in(year):
     return block(PLAIN, [line(row, PLAIN)])
 
 
+# The forms in which posCov11 is valued: a usual one, and as many digits as it may have.
+COVARIANCES = {"exponential": "2.137e-09", "digits": "12345678901234567890"}
+
+
+def one_row_with(covariance):
+    """One row of a roving station, with that posCov11."""
+    return block(ROVING, [line(roving_observation(1) | {"posCov11": covariance}, ROVING)])
+
+
 def main(folder):
-    """Writes every shape and every year."""
+    """Writes every shape, every year and every form of a covariance."""
     for year in YEARS:
         (folder / f"year-{year:04}").write_bytes(one_row_in(year).encode("ascii"))
+    for form, covariance in COVARIANCES.items():
+        (folder / f"covariance-{form}").write_bytes(one_row_with(covariance).encode("ascii"))
     for name, shape in SHAPES.items():
         text = shape().encode("ascii")
         assert len(text) <= TEXT_LIMIT, name

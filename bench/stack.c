@@ -67,7 +67,7 @@ static void note(int call, size_t bytes)
 }
 
 /* An answer of more than two words goes where the first argument says. */
-static uint64_t answer[9];
+static uint64_t answer[10];
 
 /* Each function that takes a report, on the first bytes of the report. */
 static void try_calls(size_t bytes, uint64_t observation, uint64_t element)

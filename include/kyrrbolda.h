@@ -12,7 +12,7 @@
  *  - A report or a name is only read, and so is a list that is checked or read. What is written to, an output or the list of
  *    kyrr_night_write, must not overlap the report.
  *  - No memory is kept, allocated or freed; calls from several threads at once do not disturb one another.
- *  - Stack, the return address included: 2,048 bytes are enough for kyrr_check, kyrr_show, kyrr_value and kyrr_night_write, 70,656
+ *  - Stack, the return address included: 2,048 bytes are enough for kyrr_check, kyrr_show, kyrr_value and kyrr_night_write, 76,800
  *    for kyrr_pack, of one row as of 256, and 512 for kyrr_night_check, kyrr_night_read, kyrr_name and kyrr_element. Measured and
  *    not proved, with the library as `rt staticlib` builds it with LLVM 22.1.8; docs/SPEED.md has the exact figures. A program that
  *    binds memcpy and memset only at their first call needs 4,096 more for that.
@@ -42,10 +42,12 @@ extern "C" {
 
 /* The elements, numbered from 1 in this order: permID, provID, artSat, trkSub, obsID, obsSubID, mode, stn, sys, ctr, pos1, pos2,
  * pos3, prog, obsTime, rmsTime, ra, dec, rmsRA, rmsDec, rmsCorr, astCat, mag, rmsMag, band, photCat, photAp, notes, remarks,
- * trx, rcv, delay, rmsDelay, doppler, rmsDoppler, frq, com. kyrr_name gives these names, kyrr_element these numbers. An observation
- * is radar where any of trx to com is present, and else optical. delay is in seconds, rmsDelay in microseconds, doppler and
- * rmsDoppler in Hz, frq in MHz; com is 0 or 1, and has no value. */
-#define KYRR_ELEMENTS 37
+ * trx, rcv, delay, rmsDelay, doppler, rmsDoppler, frq, com, posCov11, posCov12, posCov13, posCov22, posCov23, posCov33. kyrr_name
+ * gives these names, kyrr_element these numbers. An observation is radar where any of trx to com is present, and else optical. delay
+ * is in seconds, rmsDelay in microseconds, doppler and rmsDoppler in Hz, frq in MHz; com is 0 or 1, and has no value. posCov11 to
+ * posCov33 are the covariances of the station's position: they stand only beside all of sys, ctr, pos1, pos2 and pos3, and in the
+ * columns of a packed report they follow pos3. */
+#define KYRR_ELEMENTS 43
 
 /* The bytes of the longest name of an element. */
 #define KYRR_NAME_LIMIT 10
@@ -71,7 +73,7 @@ enum kyrr_refusal {
     KYRR_OUT_OF_RANGE = 10,        /* a value is out of its range or vocabulary */
     KYRR_ELEMENT_MISSING = 11,     /* a needed element is missing; place 1 where permID, provID, artSat and trkSub all are, of a radar
                                     * observation permID and provID; in a radar one 32 stands for delay and doppler, both missing */
-    KYRR_GROUP_INCOMPLETE = 12,    /* a group is incomplete; place is its lowest missing element */
+    KYRR_GROUP_INCOMPLETE = 12,    /* a group is incomplete; place is its lowest missing element, of a covariance one of 9 to 13 */
     KYRR_CENTRE_NOT_EARTH = 13,    /* sys is WGS84 and ctr is not 399 */
     KYRR_TOO_MANY_ROWS = 14,       /* the 257th data line */
     KYRR_OUTPUT_TOO_SHORT = 15,    /* the output is shorter than the packed report */
@@ -93,14 +95,26 @@ enum kyrr_kind {
     KYRR_DECIMAL = 3,  /* the number is `whole` with the last `part` digits after the point: 10.50 is 1050 with 2 places,
                         * 12. is 12 with 0, .5 is 5 with 1 */
     KYRR_TIME = 4,     /* obsTime: `whole` is the day, 0 on 1858-11-17; `part` the microseconds of the day */
-    KYRR_ANGLE = 5     /* ra and dec: `whole` is in units of 0.000000001 degree */
+    KYRR_ANGLE = 5,    /* ra and dec: `whole` is in units of 0.000000001 degree */
+    KYRR_SCALED = 6    /* posCov11 to posCov33: (`high` * KYRR_PART_BASE + `low`) times ten to `power`, below zero where `negative` is 1:
+                        * 1.50e3 is 150 with power 1, -0e5 is 0 with power 5 and not negative. high and low are below KYRR_PART_BASE,
+                        * power is from -1,013 to 999. `whole` and `part` are 0 */
 };
+
+/* What the two parts of a covariance's whole number are by. */
+#define KYRR_PART_BASE 10000000000u
 
 typedef struct { uint64_t refused, line, place, observations; } kyrr_checked;
 
 typedef struct { uint64_t refused, line, place, absent, start, length; } kyrr_shown;
 
-typedef struct { uint64_t refused, line, place, kind; int64_t whole; uint64_t part; } kyrr_valued;
+/* `negative`, `high`, `low` and `power` are 0 for every kind but KYRR_SCALED. */
+typedef struct {
+    uint64_t refused, line, place, kind;
+    int64_t whole;
+    uint64_t part, negative, high, low;
+    int64_t power;
+} kyrr_valued;
 
 typedef struct { uint64_t refused, line, place, length; } kyrr_packed;
 

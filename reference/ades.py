@@ -1,5 +1,5 @@
-"""The reference: what document 01 says of a report, of its elements and of packing, and document 02's order 3 of
-radar observations, written for reading.
+"""The reference: what document 01 says of a report, of its elements and of packing, document 02's order 3 of radar
+observations and its order 5 of covariances, written for reading.
 
 An answer is a tuple whose first member is a word. `read` gives
     ("accepted", observations, starts)   or   ("refused", number, line, place).
@@ -13,7 +13,7 @@ TEXT_LIMIT = 65_536
 ROW_LIMIT = 256
 VERSION_LINE = b"# version=2022"
 
-# The elements, in their order: number, name, form and what the form needs to know.
+# The elements by number: name, form and what the form needs to know.
 ELEMENTS = {
     1: (b"permID", values.permanent),
     2: (b"provID", values.provisional),
@@ -53,17 +53,32 @@ ELEMENTS = {
     35: (b"rmsDoppler", values.positive_decimal, 6),
     36: (b"frq", values.positive_decimal, 14),
     37: (b"com", values.flag),
+    # Order 5: width 20 plus sign.
+    38: (b"posCov11", values.covariance, 20),
+    39: (b"posCov12", values.covariance, 20),
+    40: (b"posCov13", values.covariance, 20),
+    41: (b"posCov22", values.covariance, 20),
+    42: (b"posCov23", values.covariance, 20),
+    43: (b"posCov33", values.covariance, 20),
 }
 NUMBERS = {ELEMENTS[number][0]: number for number in ELEMENTS}
+
+# The order of columns in what is written: by number, but that the covariances follow pos3 (order 5).
+COLUMN_ORDER = (
+    1, 2, 3, 4, 5, 6, 7, 8, 9, 10, 11, 12, 13,
+    38, 39, 40, 41, 42, 43,
+    14, 15, 16, 17, 18, 19, 20, 21, 22, 23, 24, 25, 26, 27, 28, 29, 30, 31, 32, 33, 34, 35, 36, 37)
 
 IDENTIFICATION = (1, 2, 3, 4)
 NEEDED = (7, 8, 15, 17, 18, 22)
 LOCATION = (9, 10, 11, 12, 13)
+COVARIANCES = (38, 39, 40, 41, 42, 43)
 PHOTOMETRY = (23, 24, 25, 26, 27)
 
-# Order 3: an observation is radar where any of these is present, and then all of those are foreign to it.
+# Order 3: an observation is radar where any of these is present, and then all of those are foreign to it; so are the
+# covariances (order 5).
 RADAR = (30, 31, 32, 33, 34, 35, 36, 37)
-FOREIGN_TO_RADAR = (3, 4, 7, 8, 9, 10, 11, 12, 13, 16, 17, 18, 19, 20, 21, 22, 23, 24, 25, 26, 27)
+FOREIGN_TO_RADAR = (3, 4, 7, 8, 9, 10, 11, 12, 13, 16, 17, 18, 19, 20, 21, 22, 23, 24, 25, 26, 27) + COVARIANCES
 DELAY, DOPPLER = (32, 33), (34, 35)
 
 # What a line may be, by what came before it.
@@ -224,8 +239,9 @@ def optical_lack_of(observation):
     for element in NEEDED:
         if element not in observation:
             return (11, element)
-    # 12: place is the lowest missing element. Location: elements 9 to 13 all or none.
-    if any(element in observation for element in LOCATION):
+    # 12: place is the lowest missing element. Location: elements 9 to 13 all or none; covariances are allowed only
+    # with all of them (order 5).
+    if any(element in observation for element in LOCATION + COVARIANCES):
         for element in LOCATION:
             if element not in observation:
                 return (12, element)
@@ -255,7 +271,7 @@ def check(report):
 
 def asked(report, observation, element):
     """The reader's answer, or the refusal of the request: 16 no observation of that number, then
-    17 element number not 1 to 37."""
+    17 element number not 1 to 43."""
     answer = read(report)
     if is_refused(answer):
         return answer
@@ -278,18 +294,18 @@ def showing(report, observation, element):
     return ("shown", starts[observation - 1][element], len(observations[observation - 1][element]))
 
 
-# Elements with a value are 10 to 13, 15 to 21, 23, 24, 27, and of order 3 those from 32 to 36.
+# Elements with a value are 10 to 13, 15 to 21, 23, 24, 27, of order 3 those from 32 to 36, and of order 5 all.
 DECIMALS = (11, 12, 13, 16, 19, 20, 21, 23, 24, 27, 32, 33, 34, 35, 36)
 
 
 def value(report, observation, element):
     """("whole", number), ("decimal", number, places), ("time", day, microseconds), ("angle", number),
-    ("absent",), ("no value",) or the refusal."""
+    ("scaled", number, power), ("absent",), ("no value",) or the refusal."""
     answer = asked(report, observation, element)
     if is_refused(answer):
         return answer
     # Any other one, present or not, asked for its value, is answered "no value".
-    if element not in (10, 15, 17, 18) + DECIMALS:
+    if element not in (10, 15, 17, 18) + DECIMALS + COVARIANCES:
         return ("no value",)
     present = answer[1][observation - 1].get(element)
     if present is None:
@@ -300,14 +316,17 @@ def value(report, observation, element):
         return ("time", *values.time(present))
     if element in (17, 18):
         return ("angle", values.angle(present))
+    if element in COVARIANCES:
+        return ("scaled", *values.scaled(present))
     return ("decimal", *values.decimal(present))
 
 
 # ---- the packed report
 
 def columns_of(rows):
-    """Columns of a block are exactly the elements present in some row of it, in element order."""
-    return sorted(set().union(*rows))
+    """Columns of a block are exactly the elements present in some row of it, in column order."""
+    present = set().union(*rows)
+    return [element for element in COLUMN_ORDER if element in present]
 
 
 def written_block(rows):

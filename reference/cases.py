@@ -22,6 +22,7 @@ import sys
 
 import ades
 import asks
+import covariances
 import damage
 import forms
 import limits
@@ -34,7 +35,7 @@ import sums
 
 HEADER_LENGTH = 60
 LONGEST_TEXT = 70_000
-LONGEST_FILE = 5_000_000
+LONGEST_FILE = 6_300_000
 LETTERS = "CSVPNLR"
 
 
@@ -83,12 +84,14 @@ def answer_text(given, report):
         return b"packed %d\n%s" % (len(numbers[0]), numbers[0])
     if kind == "decimal":
         return b"decimal %d places %d\n" % tuple(numbers)
+    if kind == "scaled":
+        return b"scaled %d power %d\n" % tuple(numbers)
     return b" ".join([kind.encode()] + [b"%d" % number for number in numbers]) + b"\n"
 
 
 def all_cases():
     """The cases of every kind, each kind with a seed of its own."""
-    for kind in (forms, lines, refusals, asks, limits, damage, packing, nights):
+    for kind in (forms, covariances, lines, refusals, asks, limits, damage, packing, nights):
         yield from kind.cases(random.Random("Kyrrbolda " + kind.__name__))
 
 

@@ -5,7 +5,7 @@ from ades import ELEMENTS
 from reports import random_block, random_layout, random_rows, random_shapes, random_value, to_check, to_show, to_value
 
 # Bytes that mean something, so that a change is often near a rule.
-TELLING = b"\n|# -+.0123456789TZ:/PDCAaz_~||  00.-"
+TELLING = b"\n|# -+.0123456789TZ:/PDCAaz_~||  00.-eE"
 
 
 def damaged(chance, report):
@@ -64,7 +64,7 @@ def random_damaged(chance, most_rows=4):
 
 def cases(chance):
     """Damaged reports, checked or asked for some element."""
-    for _ in range(340):
+    for _ in range(400):
         report = random_damaged(chance)
         ask = chance.choice((to_check, to_check, to_show, to_value))
         if ask is to_check:

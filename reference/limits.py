@@ -3,11 +3,12 @@
 import ades
 from ades import ROW_LIMIT, TEXT_LIMIT, refused
 from refusals import WHAT_MAKES_THEM, line_with
-from reports import (SPECIMEN, VERSION, block, delay_row, line_of, names_of, row, small_radar_row, small_row, to_check,
-                     to_show, to_value)
+from reports import (SPECIMEN, VERSION, block, delay_row, line_of, names_of, row, small_placed_row, small_radar_row,
+                     small_row, to_check, to_show, to_value)
 
 FULL = block([small_row()] * ROW_LIMIT)
 FULL_OF_RADAR = block([small_radar_row()] * ROW_LIMIT)
+FULL_OF_COVARIANCES = block([small_placed_row(posCov12=b"1")] * (ROW_LIMIT - 1) + [small_placed_row(posCov12=b"-1e9")])
 
 
 def filled(report, length):
@@ -36,6 +37,7 @@ def of_row_limit():
         yield head + line_with([fault], ades.ELEMENTS), (14, 261, 0)
     yield FULL + block([delay_row(trkSub=b"a1")]), (14, 261, 0)
     yield FULL_OF_RADAR + line_of(small_radar_row(com=b"2").values()), (14, 259, 0)
+    yield FULL + block([row(posCov11=b"1e")]), (14, 261, 0)
     # The last row that may stand is looked at like any other.
     yield block([small_row()] * (ROW_LIMIT - 1) + [small_row(dec=b"91")]), (10, 258, 6)
     yield block([small_row()] * (ROW_LIMIT - 1) + [small_row(dec=b"91")]) + small, (10, 258, 6)
@@ -57,6 +59,11 @@ def of_lines():
     yield VERSION + b"trkSub|ra\n" + b"|" * 5000 + b"\n", (18, 3, 0)
     yield VERSION + b"trkSub|ra\n" + b"|" * 257 + b"\n", (18, 3, 0)
     yield VERSION + b"trkSub|ra\na" + b" " * 4000 + b"b|1\n", (8, 3, 1)
+    yield VERSION + b"posCov11|ra\n1" + b" " * 4000 + b"1|1\n", (8, 3, 1)
+    yield VERSION + b"posCov11|ra\n" + b" " * 2000 + b"1e" + b" " * 2000 + b"|1\n", (9, 3, 1)
+    yield VERSION + b"posCov11|ra\n" + b"1" * 257 + b"|1\n", (8, 3, 1)
+    yield VERSION + b"posCov11|ra\n" + b"0" * 65 + b"e5|1\n", (8, 3, 1)
+    yield VERSION + b"posCov11|ra\n" + b" " * 2000 + b"1e5" + b" " * 2000 + b"|1\n", (11, 3, 1)
     yield SPECIMEN * 80 + VERSION + b"what\n", (6, 242, 1)
     yield SPECIMEN * 80 + SPECIMEN.replace(b"10.5", b"010.5"), (9, 243, 5)
     yield VERSION + b" remarks \n" + b" " * 2000 + b"#" + b" " * 2000 + b"\n", (11, 3, 1)
@@ -78,3 +85,5 @@ def cases(_):
     yield to_show(FULL_OF_RADAR, ROW_LIMIT, 37)
     yield to_value(FULL_OF_RADAR, ROW_LIMIT, 32)
     yield to_show(FULL_OF_RADAR, ROW_LIMIT + 1, 37)
+    yield to_show(FULL_OF_COVARIANCES, ROW_LIMIT, 39)
+    yield to_value(FULL_OF_COVARIANCES, ROW_LIMIT, 39)

@@ -1,12 +1,12 @@
 """Cases on the lines of a report: version lines, column lines, the count of fields, odd but right layouts.
 
-Each report stands beside its answer, written by hand from document 01 and order 3; the reference has to agree
+Each report stands beside its answer, written by hand from document 01 and orders 3 and 5; the reference has to agree
 before a case is made.
 """
 
 import ades
 from reports import (COLUMNS, DELAY_COLUMNS, DELAY_ROW, DELAY_SPECIMEN, DOPPLER_COLUMNS, DOPPLER_ROW, DOPPLER_SPECIMEN,
-                     ROW, SPECIMEN, VERSION, names_of, to_check)
+                     ROVING_COLUMNS, ROVING_ROW, ROVING_SPECIMEN, ROW, SPECIMEN, VERSION, names_of, to_check)
 
 # Reports with one fault, or with several on one line that is a version or column line: refusal, line, place.
 REFUSED = [
@@ -88,11 +88,13 @@ REFUSED = [
     (VERSION + b"ra|ra\n" + ROW, 7, 2, 2),
     (VERSION + b"ra| ra \n" + ROW, 7, 2, 2),
     (VERSION + b"trkSub|mode|stn|obsTime|ra|dec|astCat|trkSub\n" + ROW, 7, 2, 8),
-    (VERSION + b"|".join(names_of(ades.ELEMENTS)) + b"|permID\n" + ROW, 7, 2, 38),
-    (VERSION + b"|".join(names_of(ades.ELEMENTS)) + b"|remarks\n" + ROW, 7, 2, 38),
-    (VERSION + b"|".join(names_of(ades.ELEMENTS)) + b"|com\n" + ROW, 7, 2, 38),
-    (VERSION + b"|".join(names_of(ades.ELEMENTS)) + b"|posCov11\n" + ROW, 6, 2, 38),
-    (VERSION + b"|".join(names_of(ades.ELEMENTS)) + b"|\n" + ROW, 6, 2, 38),
+    (VERSION + b"|".join(names_of(ades.ELEMENTS)) + b"|permID\n" + ROW, 7, 2, 44),
+    (VERSION + b"|".join(names_of(ades.ELEMENTS)) + b"|remarks\n" + ROW, 7, 2, 44),
+    (VERSION + b"|".join(names_of(ades.ELEMENTS)) + b"|com\n" + ROW, 7, 2, 44),
+    (VERSION + b"|".join(names_of(ades.ELEMENTS)) + b"|posCov11\n" + ROW, 7, 2, 44),
+    (VERSION + b"|".join(names_of(ades.ELEMENTS)) + b"|posCov33\n" + ROW, 7, 2, 44),
+    (VERSION + b"|".join(names_of(ades.ELEMENTS)) + b"|posCov21\n" + ROW, 6, 2, 44),
+    (VERSION + b"|".join(names_of(ades.ELEMENTS)) + b"|\n" + ROW, 6, 2, 44),
     (SPECIMEN + VERSION + b"ra|dec|ra|dec\n" + ROW, 7, 5, 3),
     # 6 and 7: the leftmost field decides.
     (VERSION + b"ra|what|ra\n" + ROW, 6, 2, 2),
@@ -174,6 +176,41 @@ REFUSED = [
     (VERSION + b"trx|what|trx\n" + ROW, 6, 2, 2),
     (VERSION + b"trx|trx|what\n" + ROW, 7, 2, 2),
     (VERSION + b"com|ra|ra|com\n" + ROW, 7, 2, 3),
+    (VERSION + b"posCov11|what|posCov11\n" + ROW, 6, 2, 2),
+    (VERSION + b"posCov12|posCov12|what\n" + ROW, 7, 2, 2),
+    (VERSION + b"posCov13|posCov31|posCov13\n" + ROW, 6, 2, 2),
+    (VERSION + b"posCov22|pos2|pos2|posCov22\n" + ROW, 7, 2, 3),
+    (VERSION + b"pos1|posCov11|posCov12|posCov13|posCov11\n" + ROW, 7, 2, 5),
+    # Reports with covariances.
+    (ROVING_SPECIMEN[:-1], 2, 3, 0),
+    (VERSION + ROVING_COLUMNS[:-1], 2, 2, 0),
+    (VERSION + ROVING_COLUMNS, 5, 3, 0),
+    (VERSION + ROVING_COLUMNS + SPECIMEN, 5, 3, 0),
+    (ROVING_SPECIMEN + b"\x00\n", 3, 4, 0),
+    (ROVING_SPECIMEN.replace(b"e-3", b"e\x883"), 3, 3, 0),
+    (ROVING_SPECIMEN.replace(b"e-3", b"\xe9-3"), 3, 3, 0),
+    (ROVING_SPECIMEN.replace(b"-.25", b"9" * 21 + b"\xff"), 3, 3, 0),
+    (ROVING_SPECIMEN + ROW, 18, 4, 0),
+    (ROVING_SPECIMEN + b"|" * 12 + b"\n", 18, 4, 0),
+    (ROVING_SPECIMEN + b"|" * 13 + b"\n", 11, 4, 1),
+    (SPECIMEN + ROVING_ROW, 18, 4, 0),
+    (VERSION + ROVING_COLUMNS + b"#" + ROVING_ROW[1:], 4, 3, 0),
+    (VERSION + b"posCov11\n1\n", 11, 3, 1),
+    (VERSION + b"posCov11\n1e5\n", 11, 3, 1),
+    (VERSION + b"posCov11\n \n", 11, 3, 1),
+    (VERSION + b"posCov11\n1e\n", 9, 3, 1),
+    (VERSION + b"posCov11\n 1e5 5 \n", 9, 3, 1),
+    (VERSION + b"posCov11\n" + b"1" * 21 + b"\n", 8, 3, 1),
+    (VERSION + b"posCov23|posCov22\n" + b"-" * 22 + b"|1e\n", 8, 3, 1),
+    (VERSION + b"posCov23|posCov22\n1e|" + b"-" * 22 + b"\n", 9, 3, 1),
+    (VERSION + b"posCov23|posCov22\n|" + b"-" * 22 + b"\n", 8, 3, 2),
+    (VERSION + b"posCov33|trkSub\n1|a\n", 11, 3, 7),
+    (VERSION + b"posCov33|" + COLUMNS + b"1|" + ROW, 12, 3, 9),
+    (VERSION + b"posCov33|" + COLUMNS + b"|" + ROW + b" 0 |" + ROW, 12, 4, 9),
+    (VERSION + b"posCov33|" + DELAY_COLUMNS + b"1|" + DELAY_ROW, 22, 3, 43),
+    (VERSION + b"posCov33|" + DELAY_COLUMNS + b"|" + DELAY_ROW + b"1e0|" + DELAY_ROW, 22, 4, 43),
+    (ROVING_SPECIMEN.replace(b"2510", b""), 12, 3, 13),
+    (ROVING_SPECIMEN.replace(b"399", b"398"), 13, 3, 10),
 ]
 
 # Names that are near the new ones and are none; a new name alone, or twice.
@@ -182,15 +219,21 @@ NEAR_NAMES = (
     b"DELAY", b"dela", b"delays", b"delay1", b"rmsdelay", b"RMSDelay", b"rmsDelays", b"rmsDela", b"rms Delay",
     b"sigDelay", b"resDelay", b"Doppler", b"dopler", b"dopple", b"dopplers", b"rmsdoppler", b"rmsDopple",
     b"rmsDopplers", b"rmsDoppler1", b"resDoppler", b"Frq", b"FRQ", b"fr", b"freq", b"frq.", b"frqq", b"Com", b"COM",
-    b"co", b"comm", b"com1", b"comment", b"com,", b"posCov11", b"raStar", b"rms", b"radar")
+    b"co", b"comm", b"com1", b"comment", b"com,", b"raStar", b"rms", b"radar",
+    b"posCov", b"posCov1", b"posCov2", b"posCov3", b"posCov00", b"posCov01", b"posCov10", b"posCov14", b"posCov20",
+    b"posCov21", b"posCov24", b"posCov30", b"posCov31", b"posCov32", b"posCov34", b"posCov44", b"posCov111",
+    b"posCov331", b"poscov11", b"PosCov11", b"POSCOV11", b"posCOV12", b"pos Cov11", b"posCov 11", b"posCov1 1",
+    b"posCov-11", b"posCov_12", b"posCov1,1", b"posCov[11]", b"posCov11.", b"posCovII", b"posCov1l", b"oosCov11",
+    b"osCov33", b"pocCov22", b"posCov33s", b"pos11", b"pos4", b"cov11", b"velCov11", b"vel1")
 NEW_NAMES = (b"trx", b"rcv", b"delay", b"rmsDelay", b"doppler", b"rmsDoppler", b"frq", b"com")
+COVARIANCE_NAMES = (b"posCov11", b"posCov12", b"posCov13", b"posCov22", b"posCov23", b"posCov33")
 
 
 def names():
     """Column lines with these names: report and refusal."""
     for name in NEAR_NAMES:
         yield VERSION + b"permID| " + name + b" |obsTime\n" + ROW, (6, 2, 2)
-    for name in NEW_NAMES:
+    for name in NEW_NAMES + COVARIANCE_NAMES:
         yield VERSION + name + b"\n", (5, 3, 0)
         yield VERSION + b"permID|" + name + b"\n" + ROW, (18, 3, 0)
         yield VERSION + name + b"|ra| " + name + b"\n" + ROW, (7, 2, 3)
@@ -240,6 +283,23 @@ ACCEPTED = [
     (VERSION + COLUMNS[:-1] + b"|" + b"|".join(NEW_NAMES) + b"\n" + ROW[:-1] + b"|" * 8 + b"\n", 1),
     (VERSION + b"ra|" + DELAY_COLUMNS + b"|" + DELAY_ROW + b"  |" + DELAY_ROW, 2),
     (VERSION + DELAY_COLUMNS[:-1] + b"|trkSub|mode|stn|ra|dec|astCat\n" + DELAY_ROW[:-1] + b"| " * 6 + b"\n", 1),
+    # Covariances, and their columns where they are empty in every row or in some.
+    (ROVING_SPECIMEN, 1),
+    (ROVING_SPECIMEN + ROVING_ROW * 2, 3),
+    (ROVING_SPECIMEN + DELAY_SPECIMEN + SPECIMEN + ROVING_SPECIMEN, 4),
+    (VERSION + turned(ROVING_COLUMNS) + turned(ROVING_ROW), 1),
+    (VERSION + b" " + ROVING_COLUMNS.replace(b"|", b" | ") + b"  " + ROVING_ROW.replace(b"|", b"  |  "), 1),
+    (VERSION + ROVING_COLUMNS + ROVING_ROW.replace(b"|1.5e-3|-.25|", b"|||"), 1),
+    (VERSION + ROVING_COLUMNS + ROVING_ROW.replace(b"|1.5e-3|", b"|   |") + ROVING_ROW.replace(b"|-.25|", b"||"), 2),
+    (VERSION + ROVING_COLUMNS + b"a1|CCD|W84||||||  ||2024-03-01T04:05:06.5Z|10.5|-0.25|Gaia2\n" + ROVING_ROW, 2),
+    (VERSION + b"posCov22|" + COLUMNS + b"|" + ROW + b" |" + ROW, 2),
+    (VERSION + b"|".join(COVARIANCE_NAMES) + b"|" + COLUMNS + b"|" * 6 + ROW, 1),
+    (VERSION + b"|".join(COVARIANCE_NAMES) + b"|" + DELAY_COLUMNS + b"|" * 6 + DELAY_ROW + b" | " * 6 + DELAY_ROW, 2),
+    (VERSION + DOPPLER_COLUMNS[:-1] + b"|" + b"|".join(COVARIANCE_NAMES[::-1]) + b"\n" + DOPPLER_ROW[:-1] + b"| " * 6
+     + b"\n", 1),
+    (VERSION + b"posCov12|" + ROVING_COLUMNS + b"0e0|" + ROVING_ROW + b" -1E+1 |" + ROVING_ROW, 2),
+    (VERSION + ROVING_COLUMNS[:-1] + b"|posCov23\n" + ROVING_ROW[:-1] + b"|12345678901234567890\n", 1),
+    (VERSION + ROVING_COLUMNS[:-1] + b"|posCov23\n" + ROVING_ROW[:-1] + b"|   -12345678901234567890   \n", 1),
 ]
 
 

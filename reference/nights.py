@@ -12,12 +12,13 @@ import damage
 import night
 from ades import ROW_LIMIT, refused
 from asks import LARGEST
-from limits import FULL, FULL_OF_RADAR, filled
+from limits import FULL, FULL_OF_COVARIANCES, FULL_OF_RADAR, filled
 from night import RECORD_LENGTH
 from refusals import FAULTY_BLOCKS
-from reports import (DELAY_SPECIMEN, DOPPLER_SPECIMEN, SPECIMEN, block, delay_row, doppler_row, line_of, random_layout,
-                     random_radar_shape, random_rows, random_shape, row, shuffled_columns, small_radar_row, small_row,
-                     to_check_list, to_read, to_write, whole_delay_row, whole_row)
+from reports import (COVARIED, DELAY_SPECIMEN, DOPPLER_SPECIMEN, PLACED, ROVING_SPECIMEN, SPECIMEN, block, delay_row,
+                     doppler_row, line_of, random_layout, random_radar_shape, random_rows, random_shape, random_value,
+                     roving_row, row, shuffled_columns, small_radar_row, small_row, to_check_list, to_read, to_write,
+                     whole_delay_row, whole_row)
 from sums import judged_rightly
 
 # Numbers that are none of a list's, among them those that times 40 come to 0, 40 and 24 past 64 bits, and
@@ -223,6 +224,36 @@ def writes_by_chance(chance):
     yield written(chance, block([whole_row()]), 1, 40)
 
 
+def with_covariances(chance):
+    """Rows with covariances write the record that they write without them; 16, 23 and 19 as ever, the report's own
+    refusal before them."""
+    record_of_specimen = night.write(SPECIMEN, 1, bytes(RECORD_LENGTH))[1]
+    for values in (*({name: value} for name, value in COVARIED.items()), COVARIED, dict.fromkeys(COVARIED, b"-0e-999"),
+                   {"posCov11": b"9" * 20}, {"posCov23": b"-.00000000000001e-999"}):
+        yield with_value(chance, {**PLACED, **values}, 1, record_of_specimen[1:])
+    for length, refusal in ((40, None), (41, None), (200, None), (39, (19, 0, 0)), (0, (19, 0, 0))):
+        yield written(chance, ROVING_SPECIMEN, 1, length, refusal)
+    for number in (0, 2, 257, LARGEST):
+        yield written(chance, ROVING_SPECIMEN, number, chance.choice((0, 40, 80)), (16, 0, 0))
+    mixed = ROVING_SPECIMEN + DELAY_SPECIMEN + block([row(), roving_row(posCov22=b"0")])
+    for place, length, refusal in ((1, 40, None), (2, 80, (23, 0, 0)), (2, 0, (23, 0, 0)), (3, 120, None),
+                                   (4, 160, None), (4, 159, (19, 0, 0)), (5, 0, (16, 0, 0))):
+        yield written(chance, mixed, place, length, refusal)
+    for observation, refusal in ((row(posCov33=b"1"), (12, 6, 9)), (roving_row(posCov11=b"1e"), (9, 6, 9)),
+                                 (delay_row(posCov12=b"1"), (22, 6, 39)), (roving_row(pos1=None), (12, 6, 11))):
+        for place, length in ((1, 40), (2, 80), (9, 0)):
+            yield written(chance, SPECIMEN + block([observation]), place, length, refusal)
+    yield written(chance, FULL_OF_COVARIANCES, ROW_LIMIT, RECORD_LENGTH * ROW_LIMIT)
+    for _ in range(16):
+        rows = random_rows(chance, chance.randint(1, 3), [random_shape(chance) | set(ades.LOCATION)])
+        rows[-1] = {**rows[-1], **{element: random_value(chance, element) for element in ades.COVARIANCES}}
+        report, bare = random_layout(chance, rows), random_layout(chance, [
+            {element: value for element, value in each.items() if element not in ades.COVARIANCES} for each in rows])
+        case = written(chance, report, len(rows), RECORD_LENGTH * len(rows) + chance.randint(0, 9))
+        assert night.write(report, len(rows), case[4]) == night.write(bare, len(rows), case[4])
+        yield case
+
+
 # ---- lists
 
 def of_number(number, count):
@@ -420,5 +451,5 @@ def cases(chance):
     for kind in (lengths, no_such_observation, refused_reports, radar_observations, refused_radar_reports,
                  nights_of_both_kinds, worths, writes_by_chance, ends_of_numbers,
                  bytes_that_are_settled, stations, changed_bytes, short_ends, several_bad, record_numbers, long_lists,
-                 written_lists, turns_of_the_calendar):
+                 written_lists, turns_of_the_calendar, with_covariances):
         yield from kind(chance)

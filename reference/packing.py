@@ -4,12 +4,12 @@ read back as well."""
 
 import ades
 from ades import ELEMENTS, ROW_LIMIT, TEXT_LIMIT
-from limits import FULL, FULL_OF_RADAR, filled
+from limits import FULL, FULL_OF_COVARIANCES, FULL_OF_RADAR, filled
 from refusals import FAULTY_BLOCKS
-from reports import (COLUMNS, DELAY_SPECIMEN, DOPPLER_SPECIMEN, ROW, SPECIMEN, VERSION, block, delay_row, doppler_row,
-                     random_layout, random_radar_shape, random_row, random_rows, random_shape, random_shapes, row,
-                     row_with, shuffled_columns, small_radar_row, small_row, stretches, to_pack, whole_delay_row,
-                     whole_doppler_row, whole_row)
+from reports import (COLUMNS, COVARIED, DELAY_SPECIMEN, DOPPLER_SPECIMEN, PLACED, ROVING_SPECIMEN, ROW, SPECIMEN,
+                     VERSION, block, delay_row, doppler_row, random_layout, random_radar_shape, random_row, random_rows,
+                     random_shape, random_shapes, roving_row, row, row_with, shuffled_columns, small_placed_row,
+                     small_radar_row, small_row, stretches, to_pack, whole_delay_row, whole_doppler_row, whole_row)
 from sums import packs_well, run_rows
 
 LARGEST_ROOM = 70_000
@@ -181,6 +181,102 @@ def shortest_mixed(chance, wanted):
             yield from pack_cases(chance, random_layout(chance, rows))
 
 
+# ---- covariances, whose columns follow pos3
+
+# Every column of an optical row in the order in which it is written.
+WHOLE = b"""# version=2022
+permID|provID|artSat|trkSub|obsID|obsSubID|mode|stn|sys|ctr|pos1|pos2|pos3|posCov11|posCov12|posCov13|posCov22|\
+posCov23|posCov33|prog|obsTime|rmsTime|ra|dec|rmsRA|rmsDec|rmsCorr|astCat|mag|rmsMag|band|photCat|photAp|notes|remarks
+123P-A|2016 AZ6|1998-067A|a1|x_1|n 7|CCD|W84|WGS84|399|-110.79|+32.4|2510|1.5e-3|-2E4|0|.25|+1e+00|9.|01|\
+2024-03-01T04:05:06.5Z|0.5|10.5|-0.25|0.1|0.2|-0.5|Gaia2|20.1|0.1|G|Gaia2|3.5|K|clear sky
+"""
+
+# One number in other bytes, each kept.
+COVARIANCE_SPELLINGS = (b"100000", b"1e5", b"1E5", b"1e+5", b"1e05", b"1.e5", b"+1e005", b"10.0E4", b".1e6", b"100000.")
+
+# Rows in turn, o without location, p with it, 1 to 6 with it and so many covariances; the cuts. A block of p costs 76
+# bytes before its rows, each covariance a byte in every row.
+COVARIANCE_NIGHTS = [
+    ("6", [1]), ("66", [2]), ("p6", [2]), ("6p", [2]), ("o6", [2]), ("o6p1", [4]), ("1p6o3", [5]), ("123456", [6]),
+    ("p" * 12 + "6", [13]), ("p" * 13 + "6", [13, 1]), ("6" + "p" * 12, [13]), ("6" + "p" * 13, [1, 13]),
+    ("p" * 18 + "4", [19]), ("p" * 19 + "4", [20]), ("p" * 20 + "4", [20, 1]), ("4" + "p" * 20, [1, 20]),
+    ("p" * 37 + "2", [38]), ("p" * 38 + "2", [39]), ("p" * 39 + "2", [39, 1]), ("ooooo6", [5, 1]), ("oooo6", [5]),
+]
+
+
+def covariance_nights(chance):
+    """These nights, whose cuts were worked out by hand; laid out by chance, the output exactly long enough and one
+    byte short."""
+    kinds = {"o": row(), "p": row(**PLACED)}
+    kinds |= {str(count): row(**PLACED, **dict(list(COVARIED.items())[:count])) for count in range(1, 7)}
+    for spelt, cuts in COVARIANCE_NIGHTS:
+        rows = [kinds[letter] for letter in spelt]
+        assert ades.shortest_cuts(rows) == cuts, (spelt, ades.shortest_cuts(rows))
+        packed = b"".join(block(part) for part in ades.parted(rows, cuts))
+        for room in (len(packed), len(packed) - 1):
+            report = random_layout(chance, rows)
+            assert ades.pack(report, room) == (("packed", packed) if room == len(packed) else ades.refused(15, 0, 0))
+            yield to_pack(report, room, chance.randrange(256))
+        packs_well(rows, chance)
+
+
+def covariance_layouts(chance):
+    """Columns in any order, also by number, are written with the covariances between pos3 and prog; values keep their
+    bytes."""
+    for specimen, rows in ((ROVING_SPECIMEN, [roving_row()]), (WHOLE, [whole_row()])):
+        by_number, reverse = block(rows, sorted(rows[0])), block(rows, sorted(rows[0], reverse=True))
+        for report in (specimen, by_number, reverse, block(rows, sorted(ELEMENTS), chance)):
+            assert ades.pack(report, len(specimen)) == ("packed", specimen)
+            for room in (len(specimen), len(specimen) - 1):
+                yield to_pack(report, room, chance.randrange(256))
+        for room in (len(specimen) + 1, 0, len(specimen) // 2):
+            yield to_pack(by_number, room, chance.randrange(256))
+    for name in COVARIED:
+        rows = [row(**PLACED, **{name: b"1e5"}, prog=b"01"), row(prog=b"02")]
+        yield from pack_cases(chance, block(rows, sorted({**rows[0], **rows[1]})))
+        rows = [small_placed_row(**{name: text}) for text in chance.sample(COVARIANCE_SPELLINGS, 6)]
+        yield from pack_cases(chance, random_layout(chance, rows), 2)
+    # One covariance a row, each another one, and blocks joined by name.
+    rows = [small_placed_row(**{name: value}) for name, value in COVARIED.items()]
+    for parts in ([rows], [rows[:3], rows[3:]], [[each] for each in reversed(rows)]):
+        yield from pack_cases(chance, b"".join(block(part, shuffled_columns(chance, part, 2)) for part in parts), 2)
+    # Between radar rows.
+    for rows in ([roving_row(), delay_row(), roving_row()], [delay_row(), whole_row(), doppler_row(), row()],
+                 [row(), roving_row(), delay_row(), doppler_row(), roving_row(posCov12=b"0")]):
+        yield from pack_cases(chance, random_layout(chance, rows), 2)
+        yield from pack_cases(chance, b"".join(block(part, sorted(ELEMENTS)) for part in stretches(rows)))
+    yield from pack_cases(chance, (ROVING_SPECIMEN + DELAY_SPECIMEN + SPECIMEN) * 5, 2)
+
+
+def covariance_shape(chance):
+    """The columns of an optical observation with its location and some covariances."""
+    return random_shape(chance) | set(ades.LOCATION) | set(chance.sample(ades.COVARIANCES, chance.choice((1, 3, 6))))
+
+
+def covariance_runs(chance, wanted):
+    """Runs of rows alike but for their covariances, of which several blocks are shortest; every second time joining
+    row by row gives a longer text."""
+    found = 0
+    while found < wanted:
+        shape, rows = NARROW | set(ades.LOCATION), []
+        for _ in range(chance.randint(3, 5)):
+            more = chance.sample(ades.COVARIANCES, chance.choice((0, 0, 3, 6)))
+            rows += [of_shape(shape | set(more))] * chance.choice((1, 2, 6, 12, 15))
+        cuts = ades.shortest_cuts(rows)
+        is_longer = len(ades.written(rows, joined_row_by_row(rows))) > len(ades.written(rows, cuts))
+        if len(rows) <= 45 and len(cuts) > 1 and (found % 2 or is_longer):
+            found += 1
+            yield from pack_cases(chance, random_layout(chance, rows))
+
+
+def covariance_mixes(chance):
+    """Rows with covariances by chance, alone, beside others, beside radar rows, laid out by chance."""
+    for _ in range(24):
+        shapes = [covariance_shape(chance), chance.choice((covariance_shape, random_shape, random_radar_shape))(chance)]
+        rows = random_rows(chance, chance.choice((1, 2, 3, 5, 8)), shapes)
+        yield from pack_cases(chance, random_layout(chance, rows), chance.choice((1, 1, 2)))
+
+
 # ---- shapes that share few columns, so that a cut is worth its bytes
 
 NARROW = {4, 7, 8, 15, 17, 18, 22}
@@ -263,6 +359,25 @@ def radar_block_as_long_as_two(chance):
     tied = [narrow] * (block_overhead(narrow) // spare)
     optical = [random_shape(chance)] * chance.choice((0, 1, 2))
     return optical + chance.choice((tied + [wide], [wide] + tied)) + chance.choice(([], optical))
+
+
+def covariances_as_long_as_two(chance):
+    """The same of rows with a location and a row that has covariances too."""
+    while True:
+        narrow = random_shape(chance) - set(ades.COVARIANCES) | set(ades.LOCATION)
+        count = chance.randint(3, 6)
+        if block_overhead(narrow) % count == 0:
+            break
+    wide = narrow | set(chance.sample(ades.COVARIANCES, count))
+    tied = [narrow] * (block_overhead(narrow) // count)
+    return chance.choice((tied + [wide], [wide] + tied))
+
+
+def between_covariances(chance):
+    """Rows with a location that cost as much in the block before as in the block after, with other covariances."""
+    narrow = NARROW | set(ades.LOCATION)
+    return ([narrow | {38, 39, 40}] * chance.randint(12, 14) + [narrow] * chance.randint(1, 2)
+            + [narrow | {41, 42, 43}] * chance.randint(12, 14))
 
 
 def between_two_wide_ones(chance):
@@ -375,6 +490,11 @@ def many_rows(chance):
     yield from pack_cases(chance, block([radar, shifted] * (ROW_LIMIT // 2)))
     runs = [narrow] * 50 + [radar] * 30 + [shifted] * 30 + [narrow] * 3 + [wide] * 80 + [radar] * 4 + [shifted] * 59
     yield from pack_cases(chance, b"".join(map(block, stretches(runs))), 2)
+    yield from pack_cases(chance, FULL_OF_COVARIANCES, 2)
+    placed, covaried = small_placed_row(), small_placed_row(**dict.fromkeys(COVARIED, b"0"))
+    yield from pack_cases(chance, block([placed, covaried] * (ROW_LIMIT // 2)))
+    runs = [placed] * 60 + [covaried] * 3 + [radar] * 40 + [covaried] * 50 + [placed] * 90 + [narrow] * 13
+    yield from pack_cases(chance, b"".join(map(block, stretches(runs))), 2)
 
 
 def mixes(chance):
@@ -396,12 +516,18 @@ def cases(chance):
     yield from bare_points(chance)
     yield from nights(chance)
     yield from radar_layouts(chance)
+    yield from covariance_nights(chance)
+    yield from covariance_layouts(chance)
+    yield from covariance_mixes(chance)
+    yield from covariance_runs(chance, 12)
     yield from mixed_nights(chance)
     yield from shortest_mixed(chance, 20)
     yield from two_kinds_in_turn(chance)
     yield from far_apart(chance, 40)
     yield from ties(chance, one_block_as_long_as_two, 1, 20)
     yield from ties(chance, between_two_wide_ones, 2, 16)
+    yield from ties(chance, covariances_as_long_as_two, 1, 8, 34)
+    yield from ties(chance, between_covariances, 2, 6, 30)
     yield from ties(chance, radar_block_as_long_as_two, 1, 10, 28)
     yield from long_runs(chance, 16)
     yield from greedy_fails(chance, joined_row_by_row, 15)

@@ -6,7 +6,7 @@ A row is a dictionary from element number to value, as the reference reads it. `
 
 from itertools import groupby
 
-from ades import ELEMENTS, LOCATION, NUMBERS, columns_of, is_radar, parted
+from ades import COVARIANCES, ELEMENTS, LOCATION, NUMBERS, columns_of, is_radar, parted
 from values import ALPHANUMERICS, CAPITALS, DIGITS, days_in_month
 
 # The specimen's three lines.
@@ -22,6 +22,11 @@ DELAY_SPECIMEN = VERSION + DELAY_COLUMNS + DELAY_ROW
 DOPPLER_COLUMNS = b"permID|obsTime|trx|rcv|doppler|rmsDoppler|frq|com\n"
 DOPPLER_ROW = b"433|2024-03-01T04:05:06.5Z|251|253|-0.25|0.2|2380|0\n"
 DOPPLER_SPECIMEN = VERSION + DOPPLER_COLUMNS + DOPPLER_ROW
+
+# And a roving observer's, with two of the covariances.
+ROVING_COLUMNS = b"trkSub|mode|stn|sys|ctr|pos1|pos2|pos3|posCov11|posCov33|obsTime|ra|dec|astCat\n"
+ROVING_ROW = b"a1|CCD|247|WGS84|399|-110.79|+32.4|2510|1.5e-3|-.25|2024-03-01T04:05:06.5Z|10.5|-0.25|Gaia2\n"
+ROVING_SPECIMEN = VERSION + ROVING_COLUMNS + ROVING_ROW
 
 # A case is a letter, two numbers and two texts, of which the second is empty but where a record is written.
 
@@ -87,8 +92,15 @@ def doppler_row(**changes):
 
 
 PLACED = {"sys": b"WGS84", "ctr": b"399", "pos1": b"-110.79", "pos2": b"+32.4", "pos3": b"2510"}
+COVARIED = {"posCov11": b"1.5e-3", "posCov12": b"-2E4", "posCov13": b"0", "posCov22": b".25", "posCov23": b"+1e+00",
+            "posCov33": b"9."}
 MEASURED = {"mag": b"20.1", "rmsMag": b"0.1", "band": b"G", "photCat": b"Gaia2", "photAp": b"3.5"}
 SURE = {"rmsRA": b"0.1", "rmsDec": b"0.2", "rmsCorr": b"-0.5"}
+
+
+def roving_row(**changes):
+    """The roving observer's observation, with elements changed, added, or taken away by None."""
+    return row(**{"stn": b"247", **PLACED, "posCov11": b"1.5e-3", "posCov33": b"-.25", **changes})
 
 
 def row_with(name, value):
@@ -97,7 +109,7 @@ def row_with(name, value):
         return doppler_row(**{name: value})
     if name in ("trx", "rcv", "delay", "rmsDelay", "frq", "com"):
         return delay_row(**{name: value})
-    beside = {}
+    beside = dict(PLACED) if name in COVARIED else {}
     for group in (PLACED, MEASURED, SURE):
         if name in group:
             beside = dict(group)
@@ -107,10 +119,10 @@ def row_with(name, value):
 
 
 def whole_row(**changes):
-    """An optical observation with elements 1 to 29 present, with elements changed or taken away."""
+    """An optical observation with elements 1 to 29 and 38 to 43 present, with elements changed or taken away."""
     rest = {"permID": b"123P-A", "provID": b"2016 AZ6", "artSat": b"1998-067A", "obsID": b"x_1",
             "obsSubID": b"n 7", "prog": b"01", "rmsTime": b"0.5", "notes": b"K", "remarks": b"clear sky"}
-    return row(**{**rest, **PLACED, **MEASURED, **SURE, **changes})
+    return row(**{**rest, **PLACED, **COVARIED, **MEASURED, **SURE, **changes})
 
 
 ALLOWED = {"provID": b"2016 AZ6", "obsID": b"x_1", "obsSubID": b"n 7", "prog": b"01", "notes": b"K",
@@ -139,6 +151,11 @@ def small_row(**changes):
                   "dec": b"0", "astCat": b"u", **changes})
 
 
+def small_placed_row(**changes):
+    """An observation of few bytes with its location."""
+    return small_row(**{"sys": b"IAU", "ctr": b"0", "pos1": b"1", "pos2": b"2", "pos3": b"3", **changes})
+
+
 def line_of(fields):
     """The fields as one line."""
     return b"|".join(fields) + b"\n"
@@ -155,7 +172,7 @@ def padded(chance, fields):
 
 
 def block(rows, columns=None, chance=None):
-    """One block. Columns default to those present in element order; with a chance, fields are padded.
+    """One block. Columns default to those present in column order; with a chance, fields are padded.
     A value that would make its line begin with `#` gets a blank before it."""
     columns = columns or columns_of(rows)
     table = [names_of(columns)] + [[each.get(element, b"") for element in columns] for each in rows]
@@ -211,6 +228,9 @@ def some(chance, allowed, least, most):
     return text if text == text.strip(b" ") else text.replace(b" ", b"_")
 
 
+ALL_ZERO = bytes.maketrans(DIGITS, b"0" * len(DIGITS))
+
+
 def random_number(chance, width):
     """A decimal above zero of at most so many bytes, now and then with its point first or last."""
     digits = some(chance, DIGITS, 1, width - 1)
@@ -228,6 +248,17 @@ def random_places(chance, integer, most):
     """The integer part, mostly with a point and places; now and then the point has digits on one side alone."""
     places = b"." + some(chance, DIGITS, 1, most)
     return chance.choice((integer, integer + b".", places, *[integer + places] * 5))
+
+
+def random_covariance(chance, width):
+    """A decimal, more often than not with an exponent, short or of at most so many bytes; now and then zero."""
+    exponent = b""
+    if chance.random() < 0.6:
+        exponent = chance.choice((b"e", b"E")) + random_sign(chance) + some(chance, DIGITS, 1, 3)
+    mantissa = random_number(chance, chance.choice((3, 6, width - len(exponent))))
+    if chance.random() < 0.1:
+        mantissa = mantissa.translate(ALL_ZERO)
+    return random_sign(chance) + mantissa + exponent
 
 
 def random_time(chance):
@@ -266,6 +297,8 @@ def random_value(chance, element):
         return chance.choice((b"0", b"1"))
     if form.__name__ == "signed_decimal":
         return random_sign(chance) + random_number(chance, details[0])
+    if form.__name__ == "covariance":
+        return random_covariance(chance, details[0])
     return {
         1: lambda: random_permanent(chance),
         2: lambda: random_provisional(chance),
@@ -283,8 +316,8 @@ def random_value(chance, element):
 def random_shape(chance):
     """A set of elements that one optical observation may hold."""
     shape = {7, 8, 15, 17, 18, 22} | set(chance.sample((1, 2, 3, 4), chance.choice((1, 1, 2))))
-    if chance.random() < 0.3:
-        shape |= set(LOCATION)
+    if chance.random() < 0.4:
+        shape |= set(LOCATION) | set(chance.sample(COVARIANCES, chance.choice((0, 0, 0, 1, 2, 6))))
     if chance.random() < 0.5:
         shape |= {23, 25} | set(chance.sample((24, 26, 27), chance.randint(0, 3)))
     if chance.random() < 0.4:

@@ -1,4 +1,4 @@
-"""Sums of document 01 and of orders 2 and 3, and checks of the reference against itself, made before any case is
+"""Sums of document 01 and of orders 2, 3 and 5, and checks of the reference against itself, made before any case is
 written."""
 
 import datetime
@@ -9,8 +9,9 @@ import re
 import ades
 import night
 import values
-from reports import (DELAY_ROW, DELAY_SPECIMEN, DOPPLER_SPECIMEN, PLACED, SPECIMEN, block, delay_row, doppler_row,
-                     random_layout, random_rows, random_shape, random_shapes, row, row_with, small_row)
+from reports import (COVARIED, DELAY_ROW, DELAY_SPECIMEN, DOPPLER_SPECIMEN, PLACED, ROVING_ROW, ROVING_SPECIMEN,
+                     SPECIMEN, block, delay_row, doppler_row, random_covariance, random_layout, random_rows,
+                     random_shape, random_shapes, roving_row, row, row_with, small_row, whole_row)
 
 
 def fault(element, text):
@@ -73,7 +74,7 @@ def sums_of_radar():
     for text in (b"2", b"00", b"01", b"-", b"1.", b"0" * 400):
         assert fault("com", text) == 10
     assert worth("com", b"1") == ("no value",)
-    assert ades.showing(SPECIMEN, 1, 37) == ("absent",) and ades.showing(SPECIMEN, 1, 38) == ades.refused(17, 0, 0)
+    assert ades.showing(SPECIMEN, 1, 37) == ("absent",)
     for rows, refusal in (
             ([delay_row()], None), ([doppler_row()], None), ([delay_row(), doppler_row()], None),
             ([delay_row(trkSub=b"a1")], (22, 3, 4)), ([row(com=b"0")], (22, 3, 4)),
@@ -94,6 +95,48 @@ def sums_of_radar():
             (2, 0, 23), (2, 79, 23), (2, 80, 23), (4, 0, 16), (0, 0, 16), (3, 119, 19), (1, 39, 19)):
         assert night.write(mixed, number, bytes(length)) == (ades.refused(answer, 0, 0), bytes(length))
     assert night.write(mixed, 3, bytes(120))[0] == ("written",)
+
+
+# Order 5: what covariances are worth, whole number and power; the texts that are 9.
+SCALED = {
+    b"1.50e3": (150, 1), b"1e005": (1, 5), b"1.E+5": (1, 5), b".5e-3": (5, -4), b"-0e5": (0, 5), b"-1.25": (-125, -2),
+    b"99999999999999999999": (99_999_999_999_999_999_999, 0), b"1e999": (1, 999), b"-.99999999999999e-999":
+    (-99_999_999_999_999, -1_013), b"+0.0": (0, -1), b"-.0000000000000000001": (-1, -19), b"1E-999": (1, -999),
+}
+NOT_SCALED = (b"1e", b"1e+", b"e5", b"1e1234", b"1e5.", b"1ee5", b".e5", b"+", b".", b"--1", b"1e+-5", b"1 e5", b"1e 5",
+              b"1d5")
+
+
+def sums_of_covariances():
+    """Order 5: the form, its width and what it is worth; 17; 12 within the location check; foreign to radar and no
+    sign of it; their columns after pos3; the same record with them as without."""
+    for name in COVARIED:
+        for text, worth_of_it in SCALED.items():
+            assert worth(name, text) == ("scaled", *worth_of_it), text
+        for text in NOT_SCALED:
+            assert fault(name, text) == 9, text
+        for text in (b"9" * 20, b"." * 20, b"1e" + b"0" * 18, b"1" + b" " * 18 + b"1"):
+            assert all(fault(name, sign + text) == (0 if text == b"9" * 20 else 9) for sign in (b"", b"+", b"-"))
+            assert all(fault(name, sign + text + b"9") == 8 for sign in (b"", b"+", b"-"))
+    for report in (SPECIMEN, DELAY_SPECIMEN):
+        for element in (38, 43):
+            assert ades.showing(report, 1, element) == ades.value(report, 1, element) == ("absent",)
+        assert ades.showing(report, 1, 44) == ades.value(report, 1, 44) == ades.refused(17, 0, 0)
+    for observation, refusal in (
+            (row(posCov11=b"1"), (12, 9)), (row(sys=b"IAU", posCov33=b"1"), (12, 10)),
+            (roving_row(pos2=None), (12, 12)), (row(posCov11=b"1", mag=b"1"), (12, 9)),
+            (row(posCov11=b"1", astCat=None), (11, 22)), (roving_row(mag=b"1"), (12, 25)),
+            (roving_row(ctr=b"398"), (13, 10)), (delay_row(posCov11=b"1"), (22, 38)),
+            (delay_row(posCov33=b"1", rmsDoppler=b"1"), (22, 35)), (roving_row(com=b"1"), (22, 4))):
+        assert ades.read(block([observation])) == ades.refused(refusal[0], 3, refusal[1])
+    assert ades.check(block([row(), roving_row(), whole_row()])) == ("accepted", 3)
+    # The version line, the names with a byte each, the ends of the row's fields, its values.
+    assert len(ROVING_SPECIMEN) == 15 + 79 + 14 + 78 and ROVING_SPECIMEN == block([roving_row()])
+    assert ades.pack(ROVING_SPECIMEN, 186) == ("packed", ROVING_SPECIMEN)
+    assert ades.pack(ROVING_SPECIMEN * 2, 1000) == ("packed", ROVING_SPECIMEN + ROVING_ROW)
+    assert ades.columns_of([whole_row()]) == [*range(1, 14), *range(38, 44), *range(14, 30)]
+    assert len(whole_row()) == 35
+    assert night.write(ROVING_SPECIMEN, 1, bytes(40)) == night.write(SPECIMEN.replace(b"W84", b"247"), 1, bytes(40))
 
 
 def run_rows(count):
@@ -164,6 +207,38 @@ def short_decimals():
             judged_by_patterns(bytes(text))
 
 
+# The double of XML Schema less its infinities, with up to three digits in its exponent; document 001's pattern.
+DOUBLE = re.compile(rb"[+-]?([0-9]+(\.[0-9]*)?|\.[0-9]+)([Ee][+-]?[0-9]{1,3})?")
+WIDTH_21 = re.compile(rb"[+\-]?[+\-Ee0123456789\.]{1,20}")
+
+
+def judged_as_double(text):
+    """The text is taken as a covariance where it is such a double, unless it is too wide, and is worth what Python's
+    decimals say; what is taken fits document 001's pattern."""
+    is_wide = len(text[1:] if text[:1] in (b"+", b"-") else text) > 20
+    given = values.covariance(text, 20)
+    assert given == (8 if is_wide else 0 if DOUBLE.fullmatch(text) else 9), (text, given)
+    if given == 0:
+        sign, digits, power = decimal.Decimal(text.decode()).as_tuple()
+        size = sum(digit * 10 ** place for place, digit in enumerate(reversed(digits)))
+        assert values.scaled(text) == (-size if sign else size, power), text
+        assert WIDTH_21.fullmatch(text), text
+
+
+def covariances_as_doubles(chance):
+    """Every text of one to five of these bytes; then longer ones by chance, right ones with a byte put in or left out
+    among them."""
+    for length in range(1, 6):
+        for text in itertools.product(b"019+-.eE", repeat=length):
+            judged_as_double(bytes(text))
+    for _ in range(4_000):
+        text = random_covariance(chance, 20)
+        assert values.covariance(text, 20) == 0, text
+        at = chance.randrange(len(text))
+        for other in (text, text[:at] + text[at + 1:], text[:at] + bytes([chance.choice(b"09+-.eE ")]) + text[at:]):
+            judged_as_double(other)
+
+
 def packed_among_readable(rows):
     """Of the texts of every cutting those that read back as the same list, and of these the shortest; among equals
     the one whose first block has most rows, then the second, and so on."""
@@ -226,6 +301,14 @@ def who_could_write(record):
                dec=(b"-" if dec < 0 else b"") + b"%d.%09d" % divmod(abs(dec), values.DEGREE))
 
 
+def written_without_covariances(rows, report, chance):
+    """The optical rows with all their covariances taken away write the same records."""
+    bare = [{element: value for element, value in each.items() if element not in ades.COVARIANCES} for each in rows]
+    for number in range(1, len(rows) + 1):
+        lent = chance.randbytes(night.RECORD_LENGTH * number)
+        assert night.write(report, number, lent) == night.write(random_layout(chance, bare), number, lent)
+
+
 def judged_rightly(record, number):
     """A whole record is bad exactly where that row, at that place of a report, does not write it."""
     writer = who_could_write(record)
@@ -257,6 +340,7 @@ def check_night_list(chance):
     for _ in range(60):
         rows = random_rows(chance, chance.randint(1, 8), [random_shape(chance) for _ in range(2)])
         read_back(rows, random_layout(chance, rows), chance)
+        written_without_covariances(rows, random_layout(chance, rows), chance)
         number = chance.choice((1, 2, 3, 100, 256))
         record = night.record_of(number, rows[0])
         judged_rightly(record, number)
@@ -273,9 +357,11 @@ def check_reference(chance):
     proved_sums()
     sums_of_decimals()
     sums_of_radar()
+    sums_of_covariances()
     sums_to_be_run()
     day_numbers()
     short_decimals()
+    covariances_as_doubles(chance)
     for _ in range(250):
         shapes = random_shapes(chance, chance.choice((1, 2, 3)))
         packs_well(random_rows(chance, chance.randint(1, 8), shapes), chance)

@@ -1,5 +1,5 @@
-"""The forms of the values and what they are worth, from document 01's table of elements and document 02's orders 2
-and 3.
+"""The forms of the values and what they are worth, from document 01's table of elements and document 02's orders 2, 3
+and 5.
 
 Every form is a function from a value's bytes to its fault: 0 for none, 8 too wide, 9 wrong form,
 10 out of its range or vocabulary. A value is never empty and never begins or ends with a blank:
@@ -200,6 +200,43 @@ def centre(value):
 def integer(value):
     """The number that ctr writes."""
     return -whole(value[1:]) if is_negative(value) else whole(value)
+
+
+# ---- numbers in decimal or exponential form (order 5)
+
+def parted_at_letter(text):
+    """What stands before the first `e` or `E` and what stands after it; None where neither letter is there."""
+    for at, byte in enumerate(text):
+        if byte in b"eE":
+            return text[:at], text[at + 1:]
+    return text, None
+
+
+def is_exponent(text):
+    """Optional sign, one to three digits."""
+    digits = without_sign(text)
+    return are_digits(digits) and len(digits) <= 3
+
+
+def covariance(value, width):
+    """A signed decimal, and perhaps `e` or `E` and an exponent after it. The sign before it is not counted in the
+    width, all else is."""
+    unsigned = without_sign(value)
+    if len(unsigned) > width:
+        return TOO_WIDE
+    mantissa, exponent = parted_at_letter(unsigned)
+    right = is_decimal(mantissa) and (exponent is None or is_exponent(exponent))
+    return 0 if right else WRONG_FORM
+
+
+def scaled(value):
+    """Its value is the whole number with a signed power of ten: the exponent less the places."""
+    mantissa, exponent = parted_at_letter(value)
+    number, places = decimal(mantissa)
+    if exponent is None:
+        return number, -places
+    power = whole(without_sign(exponent))
+    return number, (-power if is_negative(exponent) else power) - places
 
 
 # ---- angles, in units of 0.000000001 degree

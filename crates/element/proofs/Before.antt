@@ -11,7 +11,7 @@ use Rattle.value.proofs.Before.{decimalBefore, correlationBefore, rightAscensio
 use Rattle.element.specs.Form.{valueIn, valueOf, checkOf, faultOf}
 use Rattle.element.specs.Table.{formOf}
 use Rattle.element.specs.declared.form.Form.{Form}
-use Rattle.element.specs.declared.form.Form.the-variants.{Unknown, PermID, ProvID, ArtSat, Alphanumeric, Free, Mode, System, Centre, Decimal, Correlation, Time, RightAscension, Declination, Flag}
+use Rattle.element.specs.declared.form.Form.the-variants.{Unknown, PermID, ProvID, ArtSat, Alphanumeric, Free, Mode, System, Centre, Decimal, Correlation, Time, RightAscension, Declination, Flag, Covariance}
 use Rattle.element.specs.declared.form.Check.{Check}
 use Rattle.element.specs.declared.form.Check.the-variants.{Fine, Bad}
 
@@ -32,6 +32,7 @@ valueInBefore Time text = valueIn Time text
 valueInBefore RightAscension text = rightAscensionBefore text
 valueInBefore Declination text = declinationBefore text
 valueInBefore Flag text = valueIn Flag text
+valueInBefore Covariance text = valueIn Covariance text
 
 unfoldable pub valueBefore : ℕ → List ℕ → Value
 valueBefore index text = valueInBefore (formOf index) text
@@ -57,6 +58,7 @@ form-kept Time text e = refl
 form-kept RightAscension text e = ascension-kept text e
 form-kept Declination text e = declination-kept text e
 form-kept Flag text e = refl
+form-kept Covariance text e = refl
 
 -- So it has as a value of its element.
 pub value-kept : (index : ℕ) (text : List ℕ) → isFine (valueBefore index text) ≡ true → valueOf index text ≡ valueBefore index text
@@ -71,6 +73,7 @@ fine-is (Values.Whole whole) e = refl
 fine-is (Values.Decimal whole places) e = refl
 fine-is (Values.Time day microseconds) e = refl
 fine-is (Values.Angle units) e = refl
+fine-is (Values.Scaled negative high low power) e = refl
 
 -- A field without a fault has none now.
 pub fault-kept : (index : ℕ) (text : List ℕ) → faultBefore index text ≡ Fine → faultOf index text ≡ Fine

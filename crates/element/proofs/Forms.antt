@@ -29,6 +29,7 @@ less-check (Values.Whole whole) = refl
 less-check (Values.Decimal whole places) = refl
 less-check (Values.Time day microseconds) = refl
 less-check (Values.Angle units) = refl
+less-check (Values.Scaled negative high low power) = refl
 
 -- An absent element has no fault.
 pub fault-absent : (index : ℕ) → faultOf index [] ≡ Fine
@@ -79,7 +80,7 @@ form-past index a = sym (List·getD-eq-default forms Unknown {n = index} (avoids
 
 -- The numbers of the elements with a value.
 abbrev pub valued : List ℕ
-valued = 10 ∷ 11 ∷ 12 ∷ 13 ∷ 15 ∷ 16 ∷ 17 ∷ 18 ∷ 19 ∷ 20 ∷ 21 ∷ 23 ∷ 24 ∷ 27 ∷ 32 ∷ 33 ∷ 34 ∷ 35 ∷ 36 ∷ []
+valued = 10 ∷ 11 ∷ 12 ∷ 13 ∷ 15 ∷ 16 ∷ 17 ∷ 18 ∷ 19 ∷ 20 ∷ 21 ∷ 23 ∷ 24 ∷ 27 ∷ 32 ∷ 33 ∷ 34 ∷ 35 ∷ 36 ∷ 38 ∷ 39 ∷ 40 ∷ 41 ∷ 42 ∷ 43 ∷ []
 
 -- The number is in the list.
 abbrev pub isAmong : List ℕ → ℕ → Bool
@@ -103,7 +104,7 @@ alike-is false false t = refl
 valued-test : ℕ → Bool
 valued-test index = alike (hasValue index) (isAmong valued (index + 1))
 
--- Elements with a value are 10 to 13, 15 to 21, 23, 24, 27 and 32 to 36.
+-- Elements with a value are 10 to 13, 15 to 21, 23, 24, 27, 32 to 36 and 38 to 43.
 pub valued-are : (index : ℕ) → index < elements → hasValue index ≡ isAmong valued (index + 1)
 unfolding valued-test alike hasValue
 valued-are index h = alike-is _ _ (below valued-test elements tt index h)

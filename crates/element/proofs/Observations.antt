@@ -1,8 +1,8 @@
 -- Laws of searches among element numbers, each in the form that a loop asks for, and of identification.
 use Prim.Native.Nat.{ℕ, zero, suc, _+_, _-_, _*_, _/_, _%_, _^_, _≤_, _<_}
 use mathlib.Core.Path.{_≡_, refl, sym, ap, _∙_}
-use mathlib.Core.Bool.{Bool, true, false, not, cond, _||_}
-use mathlib.Core.List.{List, []}
+use mathlib.Core.Bool.{Bool, true, false, not, cond, _&&_, _||_}
+use mathlib.Core.List.{List, [], _∷_, _++_}
 use native.Mathlib.Nat.{pow-suc, div-div-eq-div-mul}
 use native.Mathlib.Numerals.{add-one}
 use native.Mathlib.Omega.{arith}
@@ -16,10 +16,10 @@ use Rattle.refusal.specs.declared.Fault.{Fault}
 use Rattle.refusal.specs.declared.Fault.the-variants.{Sound, At}
 use Rattle.refusal.specs.declared.Kind.the-variants.{ElementMissing}
 use borrow.Author.Tests.{eq-eqb, ne-eqb, eqb-true, eqb-false}
-use Rattle.text.proofs.Bools.{never, bools}
+use Rattle.text.proofs.Bools.{never, bools, both}
 use Rattle.element.specs.Table.{upward}
 use Rattle.element.specs.Observation.{Observation, isHeld, isIn, isRadar, isRadarSet, isWgs84, isEarth, holdsAny, firstHeld, firstMissing}
-use Rattle.element.specs.Observation.{identification, radar, radarIdentification, radarNeeded, radarMissing, foreign, missingAt, foreignAt}
+use Rattle.element.specs.Observation.{identification, radar, radarIdentification, radarNeeded, radarMissing, covariances, foreignBelow, foreign, missingAt, foreignAt}
 use Rattle.element.specs.Observation.{opticalFault, radarFault, faultIn, observationFault}
 
 -- One number more, and the end.
@@ -88,6 +88,58 @@ bits-any (suc count) from set =
 pub radar-bits : (set : ℕ) → not (eqb (set / 2 ^ 29 % 2 ^ 8) 0) ≡ isRadarSet set
 unfolding isRadarSet
 radar-bits set = sym (bits-any 8 29 set)
+
+-- One of the covariances is there where one of the six bits from 37 on is set.
+pub covariance-bits : (set : ℕ) → not (eqb (set / 2 ^ 37 % 2 ^ 6) 0) ≡ holdsAny covariances (isIn set)
+covariance-bits set = sym (bits-any 6 37 set)
+
+-- One of two lists' elements is held where one of either is.
+pub any-append : (first second : List ℕ) (holds : ℕ → Bool) → holdsAny (first ++ second) holds ≡ holdsAny first holds || holdsAny second holds
+unfolding holdsAny
+any-append [] second holds = refl
+any-append (n ∷ first) second holds = bools (holds n) (λ e. rw e) (λ e. rw e (any-append first second holds))
+
+-- None of the elements is the first where none is held.
+none-held : (numbers : List ℕ) (holds : ℕ → Bool) → holdsAny numbers holds ≡ false → firstHeld numbers holds ≡ 0
+unfolding holdsAny firstHeld
+none-held [] holds e = refl
+none-held (n ∷ numbers) holds e = bools (holds n) (λ t. absurd (never (sym (rw t at e)))) (λ t. rw t (none-held numbers holds (rw t at e)))
+
+-- None of the numbers is 0.
+abbrev Above : List ℕ → Type 0
+Above [] = Unit
+Above (n ∷ numbers) = (eqb n 0 ≡ false) × Above numbers
+
+-- The first of two lists' elements that is held: of the first list, or where there is none of the second.
+held-append : (first second : List ℕ) (holds : ℕ → Bool) → Above first
+    → firstHeld (first ++ second) holds ≡ cond (eqb (firstHeld first holds) 0) (firstHeld second holds) (firstHeld first holds)
+unfolding firstHeld
+held-append [] second holds a = refl
+held-append (n ∷ first) second holds a = bools (holds n) (λ e. rw (e, a .0)) (λ e. rw e (held-append first second holds (a .1)))
+
+-- No foreign element below the covariances has number 0.
+below-above : (doppler : Bool) → Above (foreignBelow doppler)
+below-above true = (refl, (refl, (refl, (refl, (refl, (refl, (refl, (refl, (refl, (refl, (refl, (refl, (refl, (refl, (refl, (refl, (refl, (refl, (refl, (refl, (refl, (refl, (refl, tt)))))))))))))))))))))))
+below-above false = (refl, (refl, (refl, (refl, (refl, (refl, (refl, (refl, (refl, (refl, (refl, (refl, (refl, (refl, (refl, (refl, (refl, (refl, (refl, (refl, (refl, (refl, (refl, tt)))))))))))))))))))))))
+
+-- The first foreign element: one below the covariances, or the first covariance.
+module _ (doppler : Bool) (holds : ℕ → Bool) where
+  foreign-is : firstHeld (foreign doppler) holds
+      ≡ cond (eqb (firstHeld (foreignBelow doppler) holds) 0) (firstHeld covariances holds) (firstHeld (foreignBelow doppler) holds)
+  foreign-is = held-append (foreignBelow doppler) covariances holds (below-above doppler)
+
+  pub foreign-covariance : (eqb (firstHeld (foreignBelow doppler) holds) 0 && holdsAny covariances holds) ≡ true
+      → firstHeld covariances holds ≡ firstHeld (foreign doppler) holds
+  foreign-covariance e = let z = both (eqb (firstHeld (foreignBelow doppler) holds) 0) (holdsAny covariances holds) e .0 in sym (foreign-is ∙ rw z)
+
+  pub foreign-other : (eqb (firstHeld (foreignBelow doppler) holds) 0 && holdsAny covariances holds) ≡ false
+      → firstHeld (foreignBelow doppler) holds ≡ firstHeld (foreign doppler) holds
+  foreign-other e =
+      bools (eqb (firstHeld (foreignBelow doppler) holds) 0)
+      (λ z.
+      let none = none-held covariances holds (rw z at e) in
+      sym (foreign-is ∙ rw (z, none) (sym (eqb-true (firstHeld (foreignBelow doppler) holds) 0 z))))
+      (λ z. sym (foreign-is ∙ rw z))
 
 -- One of two small numbers has a next one.
 pub chosen-fits : (t : Bool) (a b n : ℕ) → a < 64 → b < 64 → n ≡ cond t a b → Fits w64 (n + 1)

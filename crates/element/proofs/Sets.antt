@@ -9,7 +9,7 @@ use native.Mathlib.Omega.{arith}
 use lib.Bits.{bitOr, or-block, or-zero-r}
 use lib.Count.{ones, ones-step, ones-le, trailingZeros, under}
 use lib.Dec.{eqb, lit<}
-use lib.ListN.{length, getD, drop, set, replicate, drop-of-length-le, List·getD-map}
+use lib.ListN.{length, getD, take, drop, set, replicate, drop-of-length-le, List·getD-map}
 use lib.Seq.{set-getD, drop-cons, drop-drop, drop-nil}
 use mir.Syntax.{w32, w64}
 use mir.Val.{Fits}
@@ -100,6 +100,14 @@ module _ {lengths : List ℕ} {set left sum e : ℕ} (a : Adds lengths set left 
   adds-all h = omega (arith, a .sum-left, bytes-end lengths e left h)
 
 pub ruleset add-needs = (adds-none, adds-more, adds-fit, adds-all)
+
+-- The bytes of a set's first elements, and those of the others.
+pub bytes-parts : (k : ℕ) (lengths : List ℕ) (set : ℕ) → bytesIn (take k lengths) set + bytesIn (drop k lengths) (set / 2 ^ k) ≡ bytesIn lengths set
+unfolding bytesIn
+bytes-parts zero lengths set = rw (div-one set) (omega arith)
+bytes-parts (suc k) [] set = refl
+bytes-parts (suc k) (l ∷ ls) set =
+    rw (pow-succ' 2 k, ← div-div-eq-div-mul set 2 (2 ^ k)) (omega (arith, bytes-parts k ls (set / 2)))
 
 -- Values noted in 16 bits each, of a set of 64 bits, have bytes that 32 bits can count.
 pub values-fit : (lengths : List ℕ) (set : ℕ) → ((e : ℕ) → getD lengths e 0 < 65536) → set < 2 ^ 64 → bytesIn lengths set < 2 ^ 32

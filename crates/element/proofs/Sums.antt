@@ -8,6 +8,7 @@ use Rattle.value.specs.Angle.{isDegrees, isRightAscension, units, rightAscensio
 use Rattle.value.specs.Calendar.{isLeap, yearDays, monthLength, monthDays, isDate, dayNumber}
 use Rattle.value.specs.Centre.{centre, isInteger, lessMinus}
 use Rattle.value.specs.Characters.{alphanumeric}
+use Rattle.value.specs.Covariance.{beforeMark, isExponent, isScaled, size, power, covariance}
 use Rattle.value.specs.Decimal.{isPointed, isDecimal, places, isTooWide, decimalIn, decimal, correlation}
 use Rattle.value.specs.Designation.{isCapitals, isMinorPlanet, isCometEnd, isComet, provID}
 use Rattle.value.specs.Numeral.{isDigits, isCount, part}
@@ -15,7 +16,7 @@ use Rattle.value.specs.Sign.{bare, withSign}
 use Rattle.value.specs.Time.{isFraction, isTimeEnd, isTime, isMoment, dayOf, fraction, microseconds, obsTime}
 use Rattle.value.specs.Word.{flag}
 use Rattle.element.specs.Form.{valueOf}
-use Rattle.element.specs.Sums.{Sum, IsRight, AreRight, valueSums, pointValueSums, radarValueSums}
+use Rattle.element.specs.Sums.{Sum, IsRight, AreRight, valueSums, pointValueSums, radarValueSums, covarianceValueSums}
 use Rattle.element.specs.Table.{indexIn, indexOf}
 
 -- P4 to P10.
@@ -37,6 +38,12 @@ pub radar-value-sums-right : AreRight radarValueSums
 unfolding IsRight AreRight radarValueSums valueOf indexOf indexIn same leading isOnly after number isPointed isDecimal places isTooWide decimalIn
     decimal alphanumeric flag isDigits bare withSign
 radar-value-sums-right = (refl, (refl, (refl, (refl, (refl, (refl, (refl, (refl, (refl, (refl, (refl, (refl, tt))))))))))))
+
+-- Order 5.
+pub covariance-value-sums-right : AreRight covarianceValueSums
+unfolding IsRight AreRight covarianceValueSums valueOf indexOf indexIn same leading isOnly after number isPointed isDecimal places covariance isScaled
+    isExponent beforeMark size power isDigits bare withSign
+covariance-value-sums-right = (refl, (refl, (refl, (refl, (refl, (refl, (refl, (refl, (refl, (refl, (refl, (refl, (refl, (refl, (refl, (refl, (refl, (refl, (refl, tt)))))))))))))))))))
 
 -- Two tables that are right are right one after the other.
 pub right-append : (xs ys : List Sum) → AreRight xs → AreRight ys → AreRight (xs ++ ys)

@@ -6,6 +6,7 @@ use Rattle.refusal.specs.declared.Kind.the-variants.{WrongForm}
 use Rattle.value.specs.Angle.{rightAscension, declination}
 use Rattle.value.specs.Centre.{centre}
 use Rattle.value.specs.Characters.{alphanumeric, free}
+use Rattle.value.specs.Covariance.{covariance}
 use Rattle.value.specs.Decimal.{decimal, correlation}
 use Rattle.value.specs.Designation.{permID, provID, artSat}
 use Rattle.value.specs.Time.{obsTime}
@@ -14,7 +15,7 @@ use Rattle.value.specs.declared.Value.{Value}
 use Rattle.value.specs.declared.Value.the-variants as Values
 use Rattle.element.specs.Table.{formOf}
 use Rattle.element.specs.declared.form.Form.{Form}
-use Rattle.element.specs.declared.form.Form.the-variants.{Unknown, PermID, ProvID, ArtSat, Alphanumeric, Free, Mode, System, Centre, Decimal, Correlation, Time, RightAscension, Declination, Flag}
+use Rattle.element.specs.declared.form.Form.the-variants.{Unknown, PermID, ProvID, ArtSat, Alphanumeric, Free, Mode, System, Centre, Decimal, Correlation, Time, RightAscension, Declination, Flag, Covariance}
 use Rattle.element.specs.declared.form.Check.{Check}
 use Rattle.element.specs.declared.form.Check.the-variants.{Fine, Bad}
 
@@ -35,6 +36,7 @@ valueIn Time text = obsTime text
 valueIn RightAscension text = rightAscension text
 valueIn Declination text = declination text
 valueIn Flag text = flag text
+valueIn Covariance text = covariance text
 
 -- The value of a text as a value of the element of an index.
 unfoldable pub valueOf : ℕ → List ℕ → Value
@@ -48,6 +50,7 @@ checkOf (Values.Whole whole) = Fine
 checkOf (Values.Decimal whole places) = Fine
 checkOf (Values.Time day microseconds) = Fine
 checkOf (Values.Angle units) = Fine
+checkOf (Values.Scaled negative high low power) = Fine
 
 -- The fault of a text as a value of the element of an index. An empty value means the element is absent: it has none.
 unfoldable pub faultOf : ℕ → List ℕ → Check
@@ -71,7 +74,8 @@ isValued Time = true
 isValued RightAscension = true
 isValued Declination = true
 isValued Flag = false
+isValued Covariance = true
 
--- Elements with a value are 10 to 13, 15 to 21, 23, 24, 27 and 32 to 36: those of a numeric form.
+-- Elements with a value are 10 to 13, 15 to 21, 23, 24, 27, 32 to 36 and 38 to 43: those of a numeric form.
 unfoldable pub hasValue : ℕ → Bool
 hasValue index = isValued (formOf index)

@@ -48,6 +48,10 @@ needed = 7 ∷ 8 ∷ 15 ∷ 17 ∷ 18 ∷ 22 ∷ []
 abbrev pub location : List ℕ
 location = 9 ∷ 10 ∷ 11 ∷ 12 ∷ 13 ∷ []
 
+-- posCov11, posCov12, posCov13, posCov22, posCov23, posCov33.
+abbrev pub covariances : List ℕ
+covariances = upward 38 6
+
 -- mag, rmsMag, band, photCat, photAp.
 abbrev pub photometry : List ℕ
 photometry = 23 ∷ 24 ∷ 25 ∷ 26 ∷ 27 ∷ []
@@ -72,11 +76,11 @@ missingAt kind place rest = cond (eqb place 0) rest (At kind place)
 unfoldable pub groupMissing : List ℕ → List ℕ → (ℕ → Bool) → ℕ
 groupMissing group needs holds = cond (holdsAny group holds) (firstMissing needs holds) 0
 
--- Location: elements 9 to 13 all or none. Photometry: if any of 23 to 27 is present, mag and band are.
+-- Location: elements 9 to 13 all or none, and all where any of 38 to 43 is present. Photometry: if any of 23 to 27 is present, mag and band are.
 -- rmsCorr needs rmsRA and rmsDec. With WGS84, ctr is 399.
 unfoldable pub groupFault : (ℕ → Bool) → Bool → Bool → Fault
 groupFault holds wgs84 earth =
-    missingAt GroupIncomplete (groupMissing location location holds)
+    missingAt GroupIncomplete (groupMissing (location ++ covariances) location holds)
     (missingAt GroupIncomplete (groupMissing photometry photometryNeeds holds)
     (missingAt GroupIncomplete (groupMissing correlation correlationNeeds holds)
     (cond (wgs84 && not earth) (At CentreNotEarth 10) Sound)))
@@ -103,8 +107,12 @@ abbrev pub radarIdentification : List ℕ
 radarIdentification = 1 ∷ 2 ∷ []
 
 -- 3, 4, 7 to 13 and 16 to 27 are foreign to a radar observation; with doppler 32 and 33 are, without it 34 and 35.
+abbrev pub foreignBelow : Bool → List ℕ
+foreignBelow doppler = 3 ∷ 4 ∷ upward 7 7 ++ (upward 16 12 ++ upward (cond doppler 32 34) 2)
+
+-- So are 38 to 43.
 abbrev pub foreign : Bool → List ℕ
-foreign doppler = 3 ∷ 4 ∷ upward 7 7 ++ (upward 16 12 ++ upward (cond doppler 32 34) 2)
+foreign doppler = foreignBelow doppler ++ covariances
 
 -- obsTime, trx, rcv; with doppler its rms, without it delay and its rms; frq, com.
 abbrev pub radarNeeded : Bool → List ℕ

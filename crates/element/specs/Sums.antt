@@ -1,10 +1,11 @@
--- The documents' sums, as tables of equations. These tables have those about values: document 01's P4 to P10, and document 02's orders 2 and 3.
+-- The documents' sums, as tables of equations. These tables have those about values: document 01's P4 to P10, and document 02's orders 2, 3 and 5.
 use Prim.Native.String.{String}
 use mathlib.Core.Path.{_≡_}
+use mathlib.Core.Bool.{true, false}
 use mathlib.Core.List.{List, [], _∷_}
 use lib.IntN.{pos, negℤ}
 use Rattle.text.specs.Bytes.{bytes}
-use Rattle.value.specs.Paper.{noValue, decimal, time, angle, PaperValue, fault, right, paperValue}
+use Rattle.value.specs.Paper.{noValue, decimal, time, angle, scaled, PaperValue, fault, right, paperValue}
 use Rattle.element.specs.Form.{valueOf}
 use Rattle.element.specs.Table.{indexOf}
 
@@ -82,4 +83,28 @@ radarValueSums =
     (value "com" "1" gives right noValue) ∷
     (value "com" "2" gives fault 10) ∷
     (value "com" "00" gives fault 10) ∷
+    []
+
+-- Order 5: decimal and exponential forms, zero, twenty digits and twenty-one bytes, and what has neither form.
+unfoldable pub covarianceValueSums : List Sum
+covarianceValueSums =
+    (value "posCov11" "1.50e3" gives right (scaled false 0 150 (pos 1))) ∷
+    (value "posCov12" "1e005" gives right (scaled false 0 1 (pos 5))) ∷
+    (value "posCov13" "1.E+5" gives right (scaled false 0 1 (pos 5))) ∷
+    (value "posCov22" ".5e-3" gives right (scaled false 0 5 (negℤ (pos 4)))) ∷
+    (value "posCov23" "-0e5" gives right (scaled false 0 0 (pos 5))) ∷
+    (value "posCov33" "-12.5" gives right (scaled true 0 125 (negℤ (pos 1)))) ∷
+    (value "posCov11" "99999999999999999999" gives right (scaled false 9999999999 9999999999 (pos 0))) ∷
+    (value "posCov11" "-99999999999999999999" gives right (scaled true 9999999999 9999999999 (pos 0))) ∷
+    (value "posCov11" "10000000000" gives right (scaled false 1 0 (pos 0))) ∷
+    (value "posCov11" "100000000000000000000" gives fault 8) ∷
+    (value "posCov11" "not a number, 21 long" gives fault 8) ∷
+    (value "posCov11" "1e" gives fault 9) ∷
+    (value "posCov11" "1e+" gives fault 9) ∷
+    (value "posCov11" "e5" gives fault 9) ∷
+    (value "posCov11" "1e1234" gives fault 9) ∷
+    (value "posCov11" "1e5." gives fault 9) ∷
+    (value "posCov11" "1ee5" gives fault 9) ∷
+    (value "posCov11" ".e5" gives fault 9) ∷
+    (value "posCov11" "+" gives fault 9) ∷
     []

@@ -1,19 +1,19 @@
--- The elements in their order: the names and the forms of document 01's table, and from 30 on of document 02's order 3. An element's index is
--- its number less one.
+-- The elements in their order: the names and the forms of document 01's table, from 30 on of document 02's order 3, from 38
+-- on of its order 5. An element's index is its number less one.
 use Prim.Native.Nat.{ℕ, zero, suc, _+_}
 use Prim.Native.String.{String}
 use mathlib.Core.Bool.{true, false, cond}
-use mathlib.Core.List.{List, [], _∷_, map}
+use mathlib.Core.List.{List, [], _∷_, _++_, map}
 use lib.Dec.{ltb}
 use lib.ListN.{getD}
 use Rattle.text.specs.Bytes.{bytes}
 use Rattle.text.specs.Part.{same}
 use Rattle.element.specs.declared.form.Form.{Form}
-use Rattle.element.specs.declared.form.Form.the-variants.{Unknown, PermID, ProvID, ArtSat, Alphanumeric, Free, Mode, System, Centre, Decimal, Correlation, Time, RightAscension, Declination, Flag}
+use Rattle.element.specs.declared.form.Form.the-variants.{Unknown, PermID, ProvID, ArtSat, Alphanumeric, Free, Mode, System, Centre, Decimal, Correlation, Time, RightAscension, Declination, Flag, Covariance}
 
 -- How many elements there are.
 abbrev pub elements : ℕ
-elements = 37
+elements = 43
 
 -- An element: its name and its form.
 pub record Element : Type 0 where
@@ -65,6 +65,12 @@ table =
     ("rmsDoppler" is Decimal 6 false) ∷
     ("frq" is Decimal 14 false) ∷
     ("com" is Flag) ∷
+    ("posCov11" is Covariance) ∷
+    ("posCov12" is Covariance) ∷
+    ("posCov13" is Covariance) ∷
+    ("posCov22" is Covariance) ∷
+    ("posCov23" is Covariance) ∷
+    ("posCov33" is Covariance) ∷
     []
 
 -- The names, by index.
@@ -80,9 +86,9 @@ abbrev pub upward : ℕ → ℕ → List ℕ
 upward from zero = []
 upward from (suc count) = from ∷ upward (suc from) count
 
--- The elements by index, in the order in which columns are written: element order.
+-- The elements by index, in the order in which columns are written: element order, but posCov11 to posCov33 follow pos3.
 abbrev pub columnOrder : List ℕ
-columnOrder = upward 0 elements
+columnOrder = upward 0 13 ++ (upward 37 6 ++ upward 13 24)
 
 -- The name of the element of an index, empty past the last element.
 abbrev pub nameOf : ℕ → List ℕ
@@ -101,6 +107,6 @@ indexIn (first ∷ rest) name = cond (same name first) 0 (suc (indexIn rest name
 unfoldable pub indexOf : List ℕ → ℕ
 indexOf name = indexIn names name
 
--- The number of the element of a name, 1 to 37; 0 where there is none.
+-- The number of the element of a name, 1 to 43; 0 where there is none.
 unfoldable pub elementNumber : List ℕ → ℕ
 elementNumber name = cond (ltb (indexOf name) elements) (indexOf name + 1) 0

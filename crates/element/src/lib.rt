@@ -7,4 +7,4 @@ pub mod set;
 pub mod table;
 
 // How many elements there are.
-pub const ELEMENTS: usize = 37;
+pub const ELEMENTS: usize = 43;

@@ -8,6 +8,9 @@ ghost use lib.Count.{ones};
 ghost use Rattle.element.specs.Names.{nameStarts};
 ghost use Rattle.element.specs.Set.{has, joined, lengthIf, bytesIn, nameBytes};
 
+// How many lengths the first part of a sum has: half of them.
+const PART: usize = 22;
+
 // Whether the element of an index is in the set.
 pub fn has(set: u64, index: usize) -> bool
     ensures { λ r. ⌜ r ≡ has set index ⌝ }
@@ -74,8 +77,19 @@ fn wide(number: u16) -> u64
     number as u64
 }
 
-// The bytes of the values of the set's elements, from the lengths noted for all elements; a length that is not given counts 0.
+// The bytes of the values of the set's elements, from the lengths noted for all elements; a length that is not given counts 0. They are summed
+// in two parts, each short enough to be unrolled.
 pub fn value_bytes(set: u64, lengths: &[u16]) -> u32
+    ensures { λ r. ⌜ r ≡ bytesIn (now (lengths .entry)) set ⌝ }
+{
+    if lengths.len() < PART {
+        return part_bytes(set, lengths);
+    }
+    part_bytes(set, &lengths[..PART]) + part_bytes(set >> PART, &lengths[PART..])
+}
+
+// The same in one part.
+fn part_bytes(set: u64, lengths: &[u16]) -> u32
     ensures { λ r. ⌜ r ≡ bytesIn (now (lengths .entry)) set ⌝ }
 {
     let mut left = set;

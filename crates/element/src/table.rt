@@ -5,8 +5,8 @@ ghost use mathlib.Core.Path.{_≡_};
 ghost use Rattle.element.specs.Table.{formOf};
 
 // The names of all elements, one after the other.
-pub(crate) const NAMES: [u8; 189] =
-    *b"permIDprovIDartSattrkSubobsIDobsSubIDmodestnsysctrpos1pos2pos3progobsTimermsTimeradecrmsRArmsDecrmsCorrastCatmagrmsMagbandphotCatphotApnotesremarkstrxrcvdelayrmsDelaydopplerrmsDopplerfrqcom";
+pub(crate) const NAMES: [u8; 237] =
+    *b"permIDprovIDartSattrkSubobsIDobsSubIDmodestnsysctrpos1pos2pos3progobsTimermsTimeradecrmsRArmsDecrmsCorrastCatmagrmsMagbandphotCatphotApnotesremarkstrxrcvdelayrmsDelaydopplerrmsDopplerfrqcomposCov11posCov12posCov13posCov22posCov23posCov33";
 
 // The bytes of the longest name.
 pub const LONGEST: usize = 10;
@@ -51,10 +51,16 @@ pub(crate) const STARTS: [u8; ELEMENTS + 1] = [
     183,
     186,
     189,
+    197,
+    205,
+    213,
+    221,
+    229,
+    237,
 ];
 
-// The elements by index, in the order in which columns are written: element order.
-pub const COLUMN_ORDER: [usize; ELEMENTS] = [
+// The elements by index, in the order in which columns are written: element order, but posCov11 to posCov33 follow pos3.
+pub const COLUMN_ORDER: [u8; ELEMENTS] = [
     0,
     1,
     2,
@@ -68,6 +74,12 @@ pub const COLUMN_ORDER: [usize; ELEMENTS] = [
     10,
     11,
     12,
+    37,
+    38,
+    39,
+    40,
+    41,
+    42,
     13,
     14,
     15,
@@ -136,6 +148,12 @@ pub(crate) fn form_of(index: usize) -> Form
         34 => Form::Decimal(6, false),
         35 => Form::Decimal(14, false),
         36 => Form::Flag,
+        37 => Form::Covariance,
+        38 => Form::Covariance,
+        39 => Form::Covariance,
+        40 => Form::Covariance,
+        41 => Form::Covariance,
+        42 => Form::Covariance,
         _ => Form::Unknown,
     }
 }

@@ -92,8 +92,7 @@ fn print_optical(element: usize, foreign: usize) {
 
 // Prints which element needs the missing one.
 fn print_need(line: &[u8], columns: &[u8], missing: usize) {
-    let group = group_of(missing);
-    let present = first_present(line, columns, group.first, group.last);
+    let present = needing(line, columns, missing);
     if 0 < present {
         elements::print_name(present);
         print::bytes(b" needs ");
@@ -101,6 +100,16 @@ fn print_need(line: &[u8], columns: &[u8], missing: usize) {
         print::bytes(b".\n");
     }
     refusals::print_advice(Kind::GroupIncomplete);
+}
+
+// The number of the first element of a data line that needs the missing one; a covariance comes after the location's own elements.
+fn needing(line: &[u8], columns: &[u8], missing: usize) -> usize {
+    let group = group_of(missing);
+    let present = first_present(line, columns, group.first, group.last);
+    if (present == 0) & (missing <= 13) {
+        return first_present(line, columns, 38, 43);
+    }
+    present
 }
 
 // Elements that stand together, by their first and last number.

@@ -76,19 +76,20 @@ fn print_named(name: &[u8], column: usize) {
           mode|one of PHO ENC CCD MER MIC NOR VID PMT|10|none|optical: needed; radar: foreign|`mode` (crates/value/specs/Word.antt)\n\
           stn|3 or 4 letters, digits, underscores or inner blanks|8, 9|none|optical: needed; radar: foreign|`alphanumeric` \
             (crates/value/specs/Characters.antt)\n\
-          sys|one of WGS84 ITRF IAU ICRF_AU ICRF_KM|10|none|optical: with ctr, pos1, pos2 and pos3, all or none; radar: foreign|`system` \
-            (crates/value/specs/Word.antt)\n\
+          sys|one of WGS84 ITRF IAU ICRF_AU ICRF_KM|10|none|optical: with ctr, pos1, pos2 and pos3, all or none, and needed with any of \
+            posCov11 to posCov33; radar: foreign|`system` (crates/value/specs/Word.antt)\n\
           ctr|a whole number without leading zero, perhaps after a minus, no -0, at most 9 characters|8, 9|a whole number|optical: with \
-            sys, pos1, pos2 and pos3, all or none, and 399 where sys is WGS84; radar: foreign|`centre` (crates/value/specs/Centre.antt)\n\
+            sys, pos1, pos2 and pos3, all or none, needed with any of posCov11 to posCov33, and 399 where sys is WGS84; radar: \
+            foreign|`centre` (crates/value/specs/Centre.antt)\n\
           pos1|a decimal: perhaps a sign, then at most 13 bytes, digits and perhaps a point, which may come first or last|8, 9|its \
-            digits, and how many of them are places|optical: with sys, ctr, pos2 and pos3, all or none; radar: foreign|`decimal` \
-            (crates/value/specs/Decimal.antt)\n\
+            digits, and how many of them are places|optical: with sys, ctr, pos2 and pos3, all or none, and needed with any of posCov11 \
+            to posCov33; radar: foreign|`decimal` (crates/value/specs/Decimal.antt)\n\
           pos2|a decimal: perhaps a sign, then at most 13 bytes, digits and perhaps a point, which may come first or last|8, 9|its \
-            digits, and how many of them are places|optical: with sys, ctr, pos1 and pos3, all or none; radar: foreign|`decimal` \
-            (crates/value/specs/Decimal.antt)\n\
+            digits, and how many of them are places|optical: with sys, ctr, pos1 and pos3, all or none, and needed with any of posCov11 \
+            to posCov33; radar: foreign|`decimal` (crates/value/specs/Decimal.antt)\n\
           pos3|a decimal: perhaps a sign, then at most 13 bytes, digits and perhaps a point, which may come first or last|8, 9|its \
-            digits, and how many of them are places|optical: with sys, ctr, pos1 and pos2, all or none; radar: foreign|`decimal` \
-            (crates/value/specs/Decimal.antt)\n\
+            digits, and how many of them are places|optical: with sys, ctr, pos1 and pos2, all or none, and needed with any of posCov11 \
+            to posCov33; radar: foreign|`decimal` (crates/value/specs/Decimal.antt)\n\
           prog|1 or 2 letters, digits, underscores or inner blanks|8, 9|none|as you like|`alphanumeric` \
             (crates/value/specs/Characters.antt)\n\
           obsTime|yyyy-mm-ddThh:mm:ss, perhaps a point and 1 to 6 digits, then Z; a date from year 0001 on, a time from 00:00:00 to \
@@ -147,7 +148,31 @@ fn print_named(name: &[u8], column: usize) {
           frq|MHz, a decimal above 0: at most 14 bytes, digits and perhaps a point, which may come first or last|8, 9; 10 for zero|its \
             digits, and how many of them are places|makes it radar, and is needed there|`decimal` (crates/value/specs/Decimal.antt)\n\
           com|0 or 1: 1 where the measure is reduced to the centre of mass, 0 where it is not|10|none|makes it radar, and is needed there|\
-            `flag` (crates/value/specs/Word.antt)\n",
+            `flag` (crates/value/specs/Word.antt)\n\
+          posCov11|the variance of pos1, in the square of its unit, in decimal or exponential form: perhaps a sign, then at most 20 \
+            bytes: digits and perhaps a point, which may come first or last, perhaps followed by e or E, a sign or none and 1 to 3 \
+            digits|8, 9|its digits as a whole number, and the power of ten to multiply them by|optical: needs sys, ctr, pos1, pos2 and \
+            pos3; radar: foreign|`covariance` (crates/value/specs/Covariance.antt)\n\
+          posCov12|the covariance of pos1 and pos2, in the product of their units, in decimal or exponential form: perhaps a sign, then \
+            at most 20 bytes: digits and perhaps a point, which may come first or last, perhaps followed by e or E, a sign or none and 1 \
+            to 3 digits|8, 9|its digits as a whole number, and the power of ten to multiply them by|optical: needs sys, ctr, pos1, pos2 \
+            and pos3; radar: foreign|`covariance` (crates/value/specs/Covariance.antt)\n\
+          posCov13|the covariance of pos1 and pos3, in the product of their units, in decimal or exponential form: perhaps a sign, then \
+            at most 20 bytes: digits and perhaps a point, which may come first or last, perhaps followed by e or E, a sign or none and 1 \
+            to 3 digits|8, 9|its digits as a whole number, and the power of ten to multiply them by|optical: needs sys, ctr, pos1, pos2 \
+            and pos3; radar: foreign|`covariance` (crates/value/specs/Covariance.antt)\n\
+          posCov22|the variance of pos2, in the square of its unit, in decimal or exponential form: perhaps a sign, then at most 20 \
+            bytes: digits and perhaps a point, which may come first or last, perhaps followed by e or E, a sign or none and 1 to 3 \
+            digits|8, 9|its digits as a whole number, and the power of ten to multiply them by|optical: needs sys, ctr, pos1, pos2 and \
+            pos3; radar: foreign|`covariance` (crates/value/specs/Covariance.antt)\n\
+          posCov23|the covariance of pos2 and pos3, in the product of their units, in decimal or exponential form: perhaps a sign, then \
+            at most 20 bytes: digits and perhaps a point, which may come first or last, perhaps followed by e or E, a sign or none and 1 \
+            to 3 digits|8, 9|its digits as a whole number, and the power of ten to multiply them by|optical: needs sys, ctr, pos1, pos2 \
+            and pos3; radar: foreign|`covariance` (crates/value/specs/Covariance.antt)\n\
+          posCov33|the variance of pos3, in the square of its unit, in decimal or exponential form: perhaps a sign, then at most 20 \
+            bytes: digits and perhaps a point, which may come first or last, perhaps followed by e or E, a sign or none and 1 to 3 \
+            digits|8, 9|its digits as a whole number, and the power of ten to multiply them by|optical: needs sys, ctr, pos1, pos2 and \
+            pos3; radar: foreign|`covariance` (crates/value/specs/Covariance.antt)\n",
         name,
         column,
     );

@@ -44,6 +44,6 @@ pub(crate) fn print_radar() {
 pub(crate) fn print_foreign() {
     print::bytes(
         b"A radar observation has none of artSat, trkSub, mode, stn, sys, ctr, pos1, pos2, pos3, rmsTime, ra, dec, rmsRA, rmsDec, rmsCorr,\n\
-          astCat, mag, rmsMag, band, photCat and photAp; with doppler no delay and no rmsDelay; without doppler no rmsDoppler.\n",
+          astCat, mag, rmsMag, band, photCat, photAp and posCov11 to posCov33; with doppler no delay and no rmsDelay; without doppler no rmsDoppler.\n",
     );
 }

@@ -21,11 +21,11 @@ pub fn print_hint(name: &[u8]) {
 // Whether a name is that of an element that ADES has and this box does not take.
 fn is_outside(name: &[u8]) -> bool {
     has_row(
-        b"trkID\ntrkMPC\nvel1\nvel2\nvel3\nposCov11\nposCov12\nposCov13\nposCov22\nposCov23\nposCov33\nraStar\ndecStar\nobsCenter\n\
-          deltaRA\ndeltaDec\ndist\npa\nrmsDist\nrmsPA\nfltr\nnucMag\nlogSNR\nshapeOcc\nseeing\nexp\nrmsFit\nnStars\nref\ndisc\n\
-          subFrm\nsubFmt\nprecTime\nprecRA\nprecDec\nuncTime\ndeprecated\nlocalUse\norbProd\norbID\nresRA\nresDec\nselAst\nsigRA\n\
-          sigDec\nsigCorr\nsigTime\nbiasRA\nbiasDec\nbiasTime\nphotProd\nresMag\nselPhot\nsigMag\nbiasMag\nphotMod\nresDelay\n\
-          selDelay\nsigDelay\nresDoppler\nselDoppler\nsigDoppler\n",
+        b"trkID\ntrkMPC\nvel1\nvel2\nvel3\nraStar\ndecStar\nobsCenter\ndeltaRA\ndeltaDec\ndist\npa\nrmsDist\nrmsPA\nfltr\n\
+          nucMag\nlogSNR\nshapeOcc\nseeing\nexp\nrmsFit\nnStars\nref\ndisc\nsubFrm\nsubFmt\nprecTime\nprecRA\nprecDec\nuncTime\n\
+          deprecated\nlocalUse\norbProd\norbID\nresRA\nresDec\nselAst\nsigRA\nsigDec\nsigCorr\nsigTime\nbiasRA\nbiasDec\n\
+          biasTime\nphotProd\nresMag\nselPhot\nsigMag\nbiasMag\nphotMod\nresDelay\nselDelay\nsigDelay\nresDoppler\nselDoppler\n\
+          sigDoppler\n",
         name,
     )
 }

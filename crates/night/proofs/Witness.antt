@@ -53,7 +53,7 @@ use Rattle.night.proofs.Within.{Within}
 abbrev rowOf : List ℕ → List ℕ → List ℕ → List ℕ → Observation
 rowOf stn time ra dec =
     [] ∷ [] ∷ [] ∷ bytes "a" ∷ [] ∷ [] ∷ bytes "CCD" ∷ stn ∷ [] ∷ [] ∷ [] ∷ [] ∷ [] ∷ [] ∷ time ∷ []
-    ∷ ra ∷ dec ∷ [] ∷ [] ∷ [] ∷ bytes "a" ∷ replicate 15 []
+    ∷ ra ∷ dec ∷ [] ∷ [] ∷ [] ∷ bytes "a" ∷ replicate 21 []
 
 -- The values from an index on are right.
 data RightFrom : ℕ → Observation → Type 0 where
@@ -110,7 +110,7 @@ module _ (stn time ra dec : List ℕ) where
       all : RightFrom 0 (rowOf stn time ra dec)
       all =
           absences 3 (value (letter 3 letter-track) (absences 2 (value camera (value s (absences 6 (value t (absences 1 (value r (value e
-          (absences 3 (value (letter 21 letter-catalogue) (absences 15 none))))))))))))
+          (absences 3 (value (letter 21 letter-catalogue) (absences 21 none))))))))))))
 
 -- A short row.
 abbrev filler : Observation

@@ -16,7 +16,7 @@ use Rattle.text.specs.declared.class.Class.the-variants.{Alphanumeric}
 use Rattle.value.specs.Calendar.{dayNumber}
 use Rattle.value.specs.Characters.{isLong}
 use Rattle.value.specs.declared.Value.{Value}
-use Rattle.value.specs.declared.Value.the-variants.{Bad, NoValue, Whole, Decimal, Time, Angle}
+use Rattle.value.specs.declared.Value.the-variants.{Bad, NoValue, Whole, Decimal, Time, Angle, Scaled}
 use Rattle.element.specs.Form.{valueOf}
 use Rattle.element.specs.Observation.{Observation, valueAt}
 use Rattle.report.specs.Report.{rowLimit}
@@ -38,6 +38,7 @@ dayIn (Whole whole) = pos 0
 dayIn (Decimal whole places) = pos 0
 dayIn (Time day microseconds) = day
 dayIn (Angle units) = pos 0
+dayIn (Scaled negative high low power) = pos 0
 
 -- The microseconds of a time, 0 of another value.
 abbrev pub microsecondsIn : Value → ℕ
@@ -47,6 +48,7 @@ microsecondsIn (Whole whole) = 0
 microsecondsIn (Decimal whole places) = 0
 microsecondsIn (Time day microseconds) = microseconds
 microsecondsIn (Angle units) = 0
+microsecondsIn (Scaled negative high low power) = 0
 
 -- The units of an angle, 0 of another value.
 abbrev pub unitsIn : Value → ℤ
@@ -56,6 +58,7 @@ unitsIn (Whole whole) = pos 0
 unitsIn (Decimal whole places) = pos 0
 unitsIn (Time day microseconds) = pos 0
 unitsIn (Angle units) = units
+unitsIn (Scaled negative high low power) = pos 0
 
 -- The fields of a number, counted from 1, a station and the values of obsTime, ra and dec.
 abbrev pub fieldsFrom : ℕ → List ℕ → Value → Value → Value → Fields

@@ -89,6 +89,7 @@ fn day_in(value: Value) -> i64
         Value::Decimal(_, _) => 0,
         Value::Time(day, _) => day,
         Value::Angle(_) => 0,
+        Value::Scaled(_, _, _, _) => 0,
     }
 }
 
@@ -103,6 +104,7 @@ fn microseconds_in(value: Value) -> u64
         Value::Decimal(_, _) => 0,
         Value::Time(_, microseconds) => microseconds,
         Value::Angle(_) => 0,
+        Value::Scaled(_, _, _, _) => 0,
     }
 }
 
@@ -117,5 +119,6 @@ fn units_in(value: Value) -> i64
         Value::Decimal(_, _) => 0,
         Value::Time(_, _) => 0,
         Value::Angle(units) => units,
+        Value::Scaled(_, _, _, _) => 0,
     }
 }

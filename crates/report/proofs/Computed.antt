@@ -8,6 +8,7 @@ use Rattle.value.specs.Angle.{rightAscension, declination, isDegrees, isRightAs
 use Rattle.value.specs.Calendar.{dayNumber, isDate, isLeap, monthDays, monthLength, yearDays}
 use Rattle.value.specs.Centre.{centre, isInteger, lessMinus}
 use Rattle.value.specs.Characters.{alphanumeric}
+use Rattle.value.specs.Covariance.{covariance, isScaled, isExponent, beforeMark, size, power}
 use Rattle.value.specs.Decimal.{decimal, decimalIn, isTooWide, isDecimal, isPointed, places}
 use Rattle.value.specs.Designation.{permID, isNumberedComet}
 use Rattle.value.specs.Numeral.{isCount, isDigits, part}
@@ -24,6 +25,6 @@ unfoldable pub reading : List ℕ → Outcome
 unfolding read readFrom step columnsFrom dataLine fieldFault fill same starts indexOf indexIn faultOf valueOf alphanumeric leading isOnly permID isNumberedComet mode system flag
     centre isInteger lessMinus decimal decimalIn isTooWide obsTime dayOf fraction isFraction isMoment isTime isTimeEnd microseconds dayNumber isDate
     isLeap monthDays monthLength yearDays rightAscension declination isDegrees isRightAscension units isDecimal isPointed places isCount isDigits part
-    bare withSign after number observationFault faultIn opticalFault radarFault radarMissing firstHeld firstMissing groupFault groupMissing holdsAny isRadar isEarth
+    bare withSign after number covariance isScaled isExponent beforeMark size power observationFault faultIn opticalFault radarFault radarMissing firstHeld firstMissing groupFault groupMissing holdsAny isRadar isEarth
     isWgs84
 reading text = read text

@@ -3,7 +3,7 @@ use Prim.Native.Nat.{ℕ}
 use mathlib.Core.Path.{_≡_, refl, sym, ap, _∙_}
 use Rattle.refusal.specs.Paper.{Answer, refusedBy, absent, given}
 use Rattle.refusal.proofs.Papers.{refusalOf, refusal-of-paper}
-use Rattle.value.specs.Paper.{Exact, noValue, whole, decimal, time, angle}
+use Rattle.value.specs.Paper.{Exact, noValue, whole, decimal, time, angle, scaled}
 use Rattle.report.specs.Answers.{checkedPaper, showingPaper, valuedPaper}
 use Rattle.report.specs.declared.answer.Checked.{Checked}
 use Rattle.report.specs.declared.answer.Checked.the-variants as Checked
@@ -52,6 +52,7 @@ valuedFrom (given (whole n)) = Valued.Whole n
 valuedFrom (given (decimal n places)) = Valued.Decimal n places
 valuedFrom (given (time day microseconds)) = Valued.Time day microseconds
 valuedFrom (given (angle units)) = Valued.Angle units
+valuedFrom (given (scaled negative high low power)) = Valued.Scaled negative high low power
 
 -- The paper's answer of each stands for it.
 valued-from-paper : (r : Valued) → valuedFrom (valuedPaper r) ≡ r
@@ -59,6 +60,7 @@ valued-from-paper (Valued.Whole n) = refl
 valued-from-paper (Valued.Decimal n places) = refl
 valued-from-paper (Valued.Time day microseconds) = refl
 valued-from-paper (Valued.Angle units) = refl
+valued-from-paper (Valued.Scaled negative high low power) = refl
 valued-from-paper Valued.Absent = refl
 valued-from-paper Valued.NoValue = refl
 valued-from-paper (Valued.Refused x) = ap Valued.Refused (refusal-of-paper x)

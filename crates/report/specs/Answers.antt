@@ -8,7 +8,7 @@ use Rattle.refusal.specs.Paper.{paper, Answer, refusedBy, absent, given}
 use Rattle.refusal.specs.declared.Kind.{Kind}
 use Rattle.refusal.specs.declared.Kind.the-variants.{NoObservation, NoElement}
 use Rattle.refusal.specs.declared.Refusal.{Refusal}
-use Rattle.value.specs.Paper.{Exact, noValue, whole, decimal, time, angle, PaperValue, fault, right, paperValue}
+use Rattle.value.specs.Paper.{Exact, noValue, whole, decimal, time, angle, scaled, PaperValue, fault, right, paperValue}
 use Rattle.element.specs.Table.{elements}
 use Rattle.element.specs.Form.{valueOf, hasValue}
 use Rattle.element.specs.Observation.{Observation, isPresent}
@@ -76,6 +76,7 @@ valuedPaper (Valued.Whole n) = given (whole n)
 valuedPaper (Valued.Decimal n places) = given (decimal n places)
 valuedPaper (Valued.Time day microseconds) = given (time day microseconds)
 valuedPaper (Valued.Angle units) = given (angle units)
+valuedPaper (Valued.Scaled negative high low power) = given (scaled negative high low power)
 valuedPaper Valued.Absent = absent
 valuedPaper Valued.NoValue = given noValue
 valuedPaper (Valued.Refused x) = refusedBy (paper x)

@@ -1,4 +1,4 @@
--- Document 01's sums marked P, as one table, and those of document 02's orders 2 and 3, a table each. Those about values stand in the element
+-- Document 01's sums marked P, as one table, and those of document 02's orders 2, 3 and 5, a table each. Those about values stand in the element
 -- crate's tables.
 use Prim.Native.Nat.{ℕ}
 use Prim.Native.String.{String}
@@ -7,7 +7,7 @@ use lib.IntN.{pos}
 use Rattle.text.specs.Bytes.{bytes}
 use Rattle.refusal.specs.Paper.{Answer, refusedBy, given}
 use Rattle.value.specs.Paper.{time}
-use Rattle.element.specs.Sums.{Sum, _gives_, valueSums, pointValueSums, radarValueSums}
+use Rattle.element.specs.Sums.{Sum, _gives_, valueSums, pointValueSums, radarValueSums, covarianceValueSums}
 use Rattle.report.specs.Report.{accepted, read}
 use Rattle.report.specs.Answers.{checkedAnswer, valuedAnswer}
 use Rattle.report.specs.Specimen.{specimen, likeSpecimen}
@@ -58,4 +58,18 @@ radarSums =
     (checked "# version=2022\npermID|mode|stn|obsTime|ra|dec|astCat|trx|rcv|doppler|rmsDoppler|frq|com\n433|CCD|W84|2024-03-01T04:05:06.5Z|10.5|-0.25|Gaia2||||||\n433|||2024-03-01T04:05:06.5Z||||253|251|-12.5|.1|2380|1\n"
     gives refusal 21 4 0) ∷
     (checked "# version=2022\npermID|mode|stn|obsTime|ra|dec|astCat|trx\n433|CCD|W84|2024-03-01T04:05:06.5Z|10.5|-0.25|Gaia2|\n" gives given 1) ∷
+    []
+
+-- Order 5: a covariance with the whole location group, alone, with the group less one, before a fault of photometry; one in a radar observation, one
+-- that is too wide.
+unfoldable pub covarianceSums : List Sum
+covarianceSums =
+    covarianceValueSums ++
+    (checked "# version=2022\ntrkSub|mode|stn|sys|ctr|pos1|pos2|pos3|posCov11|obsTime|ra|dec|astCat\na1|CCD|247|WGS84|399|1|2|3|1e-6|2024-03-01T04:05:06.5Z|10.5|-0.25|Gaia2\n"
+    gives given 1) ∷
+    (checked "# version=2022\ntrkSub|mode|stn|posCov33|obsTime|ra|dec|astCat\na1|CCD|247|1e-6|2024-03-01T04:05:06.5Z|10.5|-0.25|Gaia2\n" gives refusal 12 3 9) ∷
+    (checked "# version=2022\ntrkSub|mode|stn|sys|ctr|pos1|pos3|posCov11|obsTime|ra|dec|astCat|mag\na1|CCD|247|WGS84|399|1|3|1e-6|2024-03-01T04:05:06.5Z|10.5|-0.25|Gaia2|19.5\n"
+    gives refusal 12 3 12) ∷
+    (checked "# version=2022\npermID|trx|posCov12\n433|253|1e-6\n" gives refusal 22 3 39) ∷
+    (checked "# version=2022\npermID|posCov11\n433|123456789012345678e23\n" gives refusal 8 3 2) ∷
     []

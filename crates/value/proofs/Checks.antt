@@ -5,16 +5,18 @@ use mathlib.Core.Bool.{Bool, true, false, cond}
 use mathlib.Core.List.{List}
 use lib.Dec.{leb, ltb}
 use lib.IntN.{ℤ, pos}
+use lib.ListN.{length}
 use Rattle.text.specs.Digits.{number}
 use Rattle.text.proofs.Bools.{never}
 use Rattle.refusal.specs.declared.Kind.the-variants.{TooWide, WrongForm, OutOfRange}
 use Rattle.value.specs.Angle.{isDegrees, isRightAscension, units, rightAscension, declination}
 use Rattle.value.specs.Check.{lessValue, isFine}
+use Rattle.value.specs.Covariance.{isScaled, size, power, scaledAs, covariance}
 use Rattle.value.specs.Decimal.{isDecimal, places, isTooWide, Any, Positive, Unit, isWithin, decimalOf, decimalIn, decimal, correlation}
 use Rattle.value.specs.Sign.{isMinus, bare, withSign}
 use Rattle.value.specs.Time.{isTime, isMoment, dayOf, microseconds, obsTime}
 use Rattle.value.specs.declared.Value.{Value}
-use Rattle.value.specs.declared.Value.the-variants.{Bad, NoValue, Whole, Decimal, Time, Angle}
+use Rattle.value.specs.declared.Value.the-variants.{Bad, NoValue, Whole, Decimal, Time, Angle, Scaled}
 
 -- A fault is the same without a value.
 less-fault : (value : Value) → isFine (lessValue value) ≡ false → lessValue value ≡ value
@@ -24,6 +26,7 @@ less-fault (Whole whole) e = never (sym e)
 less-fault (Decimal whole places) e = never (sym e)
 less-fault (Time day microseconds) e = never (sym e)
 less-fault (Angle units) e = never (sym e)
+less-fault (Scaled negative high low power) e = never (sym e)
 
 -- A value of a form, in a range.
 abbrev inRange : Bool → Bool → Value → Value
@@ -87,6 +90,14 @@ module _ (found : Value) (fine : Bool) (f : fine ≡ isFine found) where
       let rest = bare signed text in
       let within = isWithin (cond signed Any Positive) (number 0 rest) (places rest) in
       in-width (isTooWide width rest) (isDecimal rest) within (decimalOf text rest) (found-is (decimal width signed text) e ∙ h)
+
+  pub found-covariance : (text : List ℕ) → found ≡ lessValue (covariance text) → fine ≡ true
+      → (ltb 20 (length (bare true text)) ≡ false) × (isScaled (bare true text) ≡ true)
+  unfolding covariance
+  found-covariance text e h =
+      let rest = bare true text in
+      let right = in-width (ltb 20 (length rest)) (isScaled rest) true (scaledAs (isMinus text) (size rest) (power rest)) (found-is (covariance text) e ∙ h) in
+      (right .0, right .1)
 
   -- The fault of a signed decimal of 13 is that of a correlation.
   pub found-correlation : (text : List ℕ) → found ≡ lessValue (decimal 13 true text) → fine ≡ false → found ≡ correlation text

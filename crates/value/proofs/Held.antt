@@ -23,7 +23,7 @@ use Rattle.value.specs.declared.Value.the-variants.{Decimal}
 use Rattle.value.proofs.Checks.{in-width}
 
 -- A decimal has a byte.
-decimal-some : (s : List ℕ) → isDecimal s ≡ true → 0 < length s
+pub decimal-some : (s : List ℕ) → isDecimal s ≡ true → 0 < length s
 unfolding isDecimal isDigits
 decimal-some s e =
     bools (isDigits s)

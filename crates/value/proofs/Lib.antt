@@ -6,6 +6,8 @@ pub mod Degrees
 pub mod Held
 pub mod Moments
 pub mod Numerals
+pub mod Scaled
+pub mod ScaledHeld
 pub mod Signs
 pub mod TooWide
 pub mod Words

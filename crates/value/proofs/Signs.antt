@@ -23,7 +23,7 @@ module _ (n : ℕ) (h : n < 2 ^ 63) where
   minus-is = rw (toZ-pos w64 h, +ℤ-idl (negℤ (pos n))) (toZ-ofZ (negative-fits n h))
 
 -- A difference fits 64 bits.
-difference-fits : (a b : ℕ) → a ≤ 1000000000000000000 → b ≤ 1000000000000000000 → SFits w64 (subℕ a b)
+pub difference-fits : (a b : ℕ) → a ≤ 1000000000000000000 → b ≤ 1000000000000000000 → SFits w64 (subℕ a b)
 difference-fits a b h k = bools (ltb a b) (λ e. rw e (record { sfits = omega arith })) (λ e. rw e (record { sfits = omega arith }))
 
 -- A difference of two whole numbers.

@@ -6,7 +6,7 @@ use mathlib.Core.List.{List}
 use lib.ListN.{length, getD}
 use Rattle.text.specs.Class.{isDigit}
 use Rattle.value.specs.declared.Value.{Value}
-use Rattle.value.specs.declared.Value.the-variants.{Bad, NoValue, Whole, Decimal, Time, Angle}
+use Rattle.value.specs.declared.Value.the-variants.{Bad, NoValue, Whole, Decimal, Time, Angle, Scaled}
 
 -- A fault as it is; a right text without its value.
 abbrev pub lessValue : Value → Value
@@ -16,6 +16,7 @@ lessValue (Whole whole) = NoValue
 lessValue (Decimal whole places) = NoValue
 lessValue (Time day microseconds) = NoValue
 lessValue (Angle units) = NoValue
+lessValue (Scaled negative high low power) = NoValue
 
 -- For the contract of a private function: the value is no fault.
 abbrev pub isFine : Value → Bool
@@ -25,6 +26,7 @@ isFine (Whole whole) = true
 isFine (Decimal whole places) = true
 isFine (Time day microseconds) = true
 isFine (Angle units) = true
+isFine (Scaled negative high low power) = true
 
 -- For the contract of a private function: two digits stand in a text from a place on.
 pub record TwoDigits (text : List ℕ) (from : ℕ) : Type 0 where

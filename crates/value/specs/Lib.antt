@@ -3,6 +3,7 @@ pub mod Calendar
 pub mod Centre
 pub mod Characters
 pub mod Check
+pub mod Covariance
 pub mod Decimal
 pub mod Designation
 pub mod Numeral

@@ -98,7 +98,7 @@ pub fn line_end() {
 
 // Prints the box's name and version.
 pub fn version() {
-    bytes(b"kyrrbolda 1.4");
+    bytes(b"kyrrbolda 1.5");
 }
 
 // Prints `accepted N`, or the refusal.
@@ -127,13 +127,14 @@ pub fn refusal_line(refusal: Refusal) {
     between(b" place ", refusal.place as u64, b"\n");
 }
 
-// Prints `whole N`, `decimal N places P`, `time DAY MICROSECONDS`, `angle N`, `absent`, `no value`, or the refusal.
+// Prints `whole N`, `decimal N places P`, `time DAY MICROSECONDS`, `angle N`, `scaled N power P`, `absent`, `no value`, or the refusal.
 pub fn value_line(answer: Valued) {
     match answer {
         Valued::Whole(whole) => numbered(b"whole ", whole),
         Valued::Decimal(whole, places) => decimal_line(whole, places),
         Valued::Time(day, microseconds) => time_line(day, microseconds),
         Valued::Angle(units) => numbered(b"angle ", units),
+        Valued::Scaled(negative, high, low, power) => scaled_line(negative, high, low, power),
         Valued::Absent => bytes(b"absent\n"),
         Valued::NoValue => bytes(b"no value\n"),
         Valued::Refused(refusal) => refusal_line(refusal),
@@ -159,4 +160,26 @@ fn time_line(day: i64, microseconds: u64) {
     bytes(b"time ");
     signed(day);
     between(b" ", microseconds, b"\n");
+}
+
+// Prints `scaled N power P`.
+fn scaled_line(negative: bool, high: u64, low: u64, power: i64) {
+    bytes(b"scaled ");
+    in_parts(negative, high, low);
+    bytes(b" power ");
+    signed(power);
+    line_end();
+}
+
+// Prints a whole number from its sign and its two parts, high and low by 10,000,000,000.
+pub fn in_parts(negative: bool, high: u64, low: u64) {
+    if negative {
+        bytes(b"-");
+    }
+    if high == 0 {
+        number(low);
+    } else {
+        number(high);
+        padded(low, 10);
+    }
 }

@@ -1,5 +1,5 @@
 use mir.Facts.{toZ-ofZ}
-use Rattle.kyrrbolda.specs.Plain.{valuedAs}
+use Rattle.kyrrbolda.specs.Plain.{scaledPlainly, valuedAs}
 use mathlib.Core.Path.{ap, _∙_}
 use borrow.Author.Needs.{needs}
 use Rattle.kyrrbolda.proofs.plain_valued.Statement.{statement}
@@ -44,6 +44,12 @@ valued-as-requires-6 c κs = search needs
 enum-known-answer-5 : tie.Need-enum-known-answer-5
 enum-known-answer-5 c = search needs
 
+scaled-requires : tie.Need-scaled-requires
+scaled-requires c κs = search needs
+
+enum-known-answer-6 : tie.Need-enum-known-answer-6
+enum-known-answer-6 c = search needs
+
 number-requires : tie.Need-number-requires
 number-requires c κs = search needs
 
@@ -66,7 +72,12 @@ returns-6 : tie.Need-returns-6
 returns-6 c = rw (c .before .before .answer4 .given .1) (c .valued-as6 .ensures ∙ ap (λ z. valuedAs 5 z 0) (toZ-ofZ (record { sfits = c .before .known-told4 .given .0 .1 })))
 
 returns-7 : tie.Need-returns-7
-returns-7 c = rw (c .number .ensures, c .before .before .answer5 .given .1)
+returns-7 c =
+    let given = c .before .before .answer5 .given in
+    rw (given .1) (c .scaled .ensures ∙ ap (scaledPlainly (given .0 .0) (given .0 .1 .0) (given .0 .1 .1 .0)) (toZ-ofZ (record { sfits = c .before .known-told5 .given .1 .1 .1 .0 .1 })))
+
+returns-8 : tie.Need-returns-8
+returns-8 c = rw (c .number .ensures, c .before .before .answer6 .given .1)
 
 pub plain-valued-spec : {M : Type 1} → statement M
 plain-valued-spec =
@@ -85,6 +96,8 @@ plain-valued-spec =
     enum-known-answer-4
     valued-as-requires-6
     enum-known-answer-5
+    scaled-requires
+    enum-known-answer-6
     number-requires
     returns
     returns-2
@@ -92,4 +105,5 @@ plain-valued-spec =
     returns-4
     returns-5
     returns-6
-    returns-7)
+    returns-7
+    returns-8)

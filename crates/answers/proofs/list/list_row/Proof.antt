@@ -8,7 +8,7 @@ abbrev Inv-loop : tie.InvT-loop
 Inv-loop report row sets starts lengths element₀ element = Unit {0}
 
 abbrev μ-loop : tie.MeasureT-loop
-μ-loop report row sets starts lengths element₀ element = 37 - element
+μ-loop report row sets starts lengths element₀ element = 43 - element
 
 print-heading-requires : tie.Need-print-heading-requires Inv-loop μ-loop
 print-heading-requires c κs = search needs

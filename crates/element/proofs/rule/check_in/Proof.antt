@@ -1,4 +1,5 @@
 use Rattle.value.specs.Angle.{declination, rightAscension}
+use Rattle.value.specs.Covariance.{covariance}
 use Rattle.value.specs.Decimal.{decimal}
 use Rattle.value.specs.Time.{obsTime}
 use Rattle.element.proofs.Forms.{less-check}
@@ -135,6 +136,15 @@ flag-requires c κs = search needs
 check-of-requires-14 : tie.Need-check-of-requires-14
 check-of-requires-14 c κs = search needs
 
+enum-told-13 : tie.Need-enum-told-13
+enum-told-13 c = search needs
+
+check-covariance-requires : tie.Need-check-covariance-requires
+check-covariance-requires c κs = search needs
+
+check-of-requires-15 : tie.Need-check-of-requires-15
+check-of-requires-15 c κs = search needs
+
 returns : tie.Need-returns
 returns c = rw (c .enum-told .given .1)
 
@@ -184,6 +194,9 @@ returns-14 c = rw (c .before .before .enum-told11 .given .1, c .check-of13 .ensu
 returns-15 : tie.Need-returns-15
 returns-15 c = rw (c .before .before .enum-told12 .given .1, c .check-of14 .ensures, c .before .flag .ensures)
 
+returns-16 : tie.Need-returns-16
+returns-16 c = rw (c .before .before .enum-told13 .given .1, c .check-of15 .ensures, c .before .check-covariance .ensures) (less-check (covariance (c .before .before .before .before .before .args .text .now)))
+
 pub check-in-spec : {M : Type 1} → statement M
 check-in-spec =
     tie.close
@@ -231,6 +244,9 @@ check-in-spec =
     enum-told-12
     flag-requires
     check-of-requires-14
+    enum-told-13
+    check-covariance-requires
+    check-of-requires-15
     returns
     returns-2
     returns-3
@@ -245,4 +261,5 @@ check-in-spec =
     returns-12
     returns-13
     returns-14
-    returns-15)
+    returns-15
+    returns-16)

@@ -90,6 +90,12 @@ enum-told-12 c = search needs
 flag-requires : tie.Need-flag-requires
 flag-requires c κs = search needs
 
+enum-told-13 : tie.Need-enum-told-13
+enum-told-13 c = search needs
+
+covariance-requires : tie.Need-covariance-requires
+covariance-requires c κs = search needs
+
 returns : tie.Need-returns
 returns c = rw (c .enum-told .given .1)
 
@@ -135,6 +141,9 @@ returns-14 c = rw (c .before .enum-told11 .given .1, c .declination .ensures)
 returns-15 : tie.Need-returns-15
 returns-15 c = rw (c .before .enum-told12 .given .1, c .flag .ensures)
 
+returns-16 : tie.Need-returns-16
+returns-16 c = rw (c .before .enum-told13 .given .1, c .covariance .ensures)
+
 pub value-in-spec : {M : Type 1} → statement M
 value-in-spec =
     tie.close
@@ -168,6 +177,8 @@ value-in-spec =
     declination-requires
     enum-told-12
     flag-requires
+    enum-told-13
+    covariance-requires
     returns
     returns-2
     returns-3
@@ -182,4 +193,5 @@ value-in-spec =
     returns-12
     returns-13
     returns-14
-    returns-15)
+    returns-15
+    returns-16)

@@ -115,7 +115,25 @@ returns-37 : tie.Need-returns-37
 returns-37 c = rw (c .match .keys37)
 
 returns-38 : tie.Need-returns-38
-returns-38 c = form-past (c .before .args .index) (c .match .rest)
+returns-38 c = rw (c .match .keys38)
+
+returns-39 : tie.Need-returns-39
+returns-39 c = rw (c .match .keys39)
+
+returns-40 : tie.Need-returns-40
+returns-40 c = rw (c .match .keys40)
+
+returns-41 : tie.Need-returns-41
+returns-41 c = rw (c .match .keys41)
+
+returns-42 : tie.Need-returns-42
+returns-42 c = rw (c .match .keys42)
+
+returns-43 : tie.Need-returns-43
+returns-43 c = rw (c .match .keys43)
+
+returns-44 : tie.Need-returns-44
+returns-44 c = form-past (c .before .args .index) (c .match .rest)
 
 pub form-of-spec : {M : Type 1} → statement M
 form-of-spec =
@@ -158,4 +176,10 @@ form-of-spec =
     returns-35
     returns-36
     returns-37
-    returns-38)
+    returns-38
+    returns-39
+    returns-40
+    returns-41
+    returns-42
+    returns-43
+    returns-44)

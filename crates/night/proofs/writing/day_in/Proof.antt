@@ -22,6 +22,9 @@ enum-known-value c = search needs
 enum-told-5 : tie.Need-enum-told-5
 enum-told-5 c = search needs
 
+enum-told-6 : tie.Need-enum-told-6
+enum-told-6 c = search needs
+
 returns : tie.Need-returns
 returns c = rw (c .enum-told .given .1)
 
@@ -40,6 +43,9 @@ returns-5 c = let e = bits-back (c .before .value .given .0 .0) (c .known-told .
 returns-6 : tie.Need-returns-6
 returns-6 c = rw (c .enum-told5 .given .1)
 
+returns-7 : tie.Need-returns-7
+returns-7 c = rw (c .enum-told6 .given .1)
+
 pub day-in-spec : {M : Type 1} → statement M
 day-in-spec =
     tie.close
@@ -50,9 +56,11 @@ day-in-spec =
     enum-told-4
     enum-known-value
     enum-told-5
+    enum-told-6
     returns
     returns-2
     returns-3
     returns-4
     returns-5
-    returns-6)
+    returns-6
+    returns-7)

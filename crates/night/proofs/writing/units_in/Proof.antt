@@ -19,6 +19,9 @@ enum-told-4 c = search needs
 enum-told-5 : tie.Need-enum-told-5
 enum-told-5 c = search needs
 
+enum-told-6 : tie.Need-enum-told-6
+enum-told-6 c = search needs
+
 enum-known-value : tie.Need-enum-known-value
 enum-known-value c = search needs
 
@@ -40,6 +43,9 @@ returns-5 c = rw (c .enum-told5 .given .1)
 returns-6 : tie.Need-returns-6
 returns-6 c = let e = bits-back (c .before .value .given .0 .0) (c .known-told .given .0 .1) in rw (e, c .before .value .given .1)
 
+returns-7 : tie.Need-returns-7
+returns-7 c = rw (c .enum-told6 .given .1)
+
 pub units-in-spec : {M : Type 1} → statement M
 units-in-spec =
     tie.close
@@ -50,9 +56,11 @@ units-in-spec =
     enum-told-4
     enum-told-5
     enum-known-value
+    enum-told-6
     returns
     returns-2
     returns-3
     returns-4
     returns-5
-    returns-6)
+    returns-6
+    returns-7)

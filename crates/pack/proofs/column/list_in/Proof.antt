@@ -1,5 +1,5 @@
 -- `pack::column::list_in` meets its contract. The invariant: of the first k of the column order, those in the set are listed.
-use Prim.Native.Nat.{ℕ, _-_}
+use Prim.Native.Nat.{ℕ, _-_, _<_}
 use mathlib.Core.List.{List}
 use mathlib.Core.Logic.{⊎-elim}
 use mathlib.Core.Path.{sym, ap, _∙_}
@@ -7,6 +7,7 @@ use native.Mathlib.Omega.{arith}
 use lib.ListN.{length, getD}
 use borrow.Author.Needs.{needs}
 use Rattle.element.proofs.Order.{order-length, order-known}
+use Rattle.element.specs.Table.{elements}
 use Rattle.pack.proofs.ColumnLaws.{Listing, list-begin, list-in, list-out, list-end}
 use Rattle.pack.proofs.column.list_in.Statement.{statement}
 use Rattle.pack.proofs.column.list_in.Tie as tie
@@ -20,19 +21,22 @@ abbrev μ-loop : tie.MeasureT-loop
 loop-holds : tie.Need-loop-holds Inv-loop μ-loop
 loop-holds c = list-begin (c .before .before .args .set) (c .before .before .args .columns .now) (c .before .before .pre .1)
 
-mul-element : tie.Need-mul-element Inv-loop μ-loop
-mul-element c = omega (arith, order-length (c .before .before .before .before .args .order .now) (c .before .before .before .before .pre .0), c .loop-test .taken)
-
 shared-slice-read-element : tie.Need-shared-slice-read-element Inv-loop μ-loop
 shared-slice-read-element c = c .before .loop-test .taken
 
-is-in-requires : tie.Need-is-in-requires Inv-loop μ-loop
-is-in-requires c κs =
+-- What stands at a place of the order is an element.
+known : (c : tie.After-shared-slice-known2 Inv-loop μ-loop)
+    → getD (c .before .before .before .before .before .args .order .now) (c .before .before .loop .k) 0 < elements
+known c =
     let loop = c .before .before .loop in
-    let pre = c .before .before .before .before .before .pre in
-    let args = c .before .before .before .before .before .args in
-    let loop-test = c .before .loop-test in
-    omega (arith, ap (λ (l : List ℕ). getD l (loop .k) 0) (pre .0), order-known (loop .k) (omega (arith, order-length (args .order .now) (pre .0), loop-test .taken)))
+    let start = c .before .before .before .before .before in
+    omega (arith, ap (λ (l : List ℕ). getD l (loop .k) 0) (start .pre .0), order-known (loop .k) (omega (arith, order-length (start .args .order .now) (start .pre .0), c .before .loop-test .taken)))
+
+cast-element : tie.Need-cast-element Inv-loop μ-loop
+cast-element c = record { fits = omega (arith, known c) }
+
+is-in-requires : tie.Need-is-in-requires Inv-loop μ-loop
+is-in-requires c κs = known c
 
 mul-columns : tie.Need-mul-columns Inv-loop μ-loop
 mul-columns c = omega (arith, c .before .before .before .before .loop .inv .few, c .before .before .before .before .loop .inv .most)
@@ -80,8 +84,8 @@ list-in-spec =
     Inv-loop
     μ-loop
     loop-holds
-    mul-element
     shared-slice-read-element
+    cast-element
     is-in-requires
     mul-columns
     slice-write-columns

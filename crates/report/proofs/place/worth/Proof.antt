@@ -24,6 +24,9 @@ enum-known-value-3 c = search needs
 enum-known-value-4 : tie.Need-enum-known-value-4
 enum-known-value-4 c = search needs
 
+enum-known-value-5 : tie.Need-enum-known-value-5
+enum-known-value-5 c = search needs
+
 returns : tie.Need-returns
 returns c = rw (c .enum-told .given .1)
 
@@ -42,6 +45,9 @@ returns-5 c = let e : toZ w64 (ofZ w64 (c .before .value3 .given .0 .0)) ≡ c .
 returns-6 : tie.Need-returns-6
 returns-6 c = let e : toZ w64 (ofZ w64 (c .before .value4 .given .0 .0)) ≡ c .before .value4 .given .0 .0 = toZ-ofZ (record { sfits = c .known-told4 .given .0 .1 }) in rw (e, c .before .value4 .given .1)
 
+returns-7 : tie.Need-returns-7
+returns-7 c = let e : toZ w64 (ofZ w64 (c .before .value5 .given .0 .1 .1 .1 .0)) ≡ c .before .value5 .given .0 .1 .1 .1 .0 = toZ-ofZ (record { sfits = c .known-told5 .given .1 .1 .1 .0 .1 }) in rw (e, c .before .value5 .given .1)
+
 pub worth-spec : {M : Type 1} → statement M
 worth-spec =
     tie.close
@@ -52,9 +58,11 @@ worth-spec =
     enum-known-value-2
     enum-known-value-3
     enum-known-value-4
+    enum-known-value-5
     returns
     returns-2
     returns-3
     returns-4
     returns-5
-    returns-6)
+    returns-6
+    returns-7)
