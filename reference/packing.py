@@ -123,19 +123,23 @@ NIGHTS = [
 ]
 
 
-def nights(chance):
-    """These nights, whose cuts were worked out by hand; each laid out by chance, the output exactly long enough and
-    one byte short. A joiner of kinds would write the mixed ones shorter."""
-    kinds = {"o": row(), "r": delay_row(), "d": doppler_row()}
-    for spelt, cuts in NIGHTS:
+def worked_out(chance, kinds, table):
+    """Nights of rows of these kinds, spelt letter by letter in the table beside their cuts, which were worked out by
+    hand; each laid out by chance, the output exactly long enough and one byte short."""
+    for spelt, cuts in table:
         rows = [kinds[letter] for letter in spelt]
-        assert ades.shortest_cuts(rows) == cuts, spelt
+        assert ades.shortest_cuts(rows) == cuts, (spelt, ades.shortest_cuts(rows))
         packed = b"".join(block(part) for part in ades.parted(rows, cuts))
         for room in (len(packed), len(packed) - 1):
             report = random_layout(chance, rows)
             assert ades.pack(report, room) == (("packed", packed) if room == len(packed) else ades.refused(15, 0, 0))
             yield to_pack(report, room, chance.randrange(256))
         packs_well(rows, chance)
+
+
+def nights(chance):
+    """Nights of optical and radar rows. A joiner of kinds would write the mixed ones shorter."""
+    yield from worked_out(chance, {"o": row(), "r": delay_row(), "d": doppler_row()}, NIGHTS)
 
 
 def radar_layouts(chance):
@@ -205,19 +209,10 @@ COVARIANCE_NIGHTS = [
 
 
 def covariance_nights(chance):
-    """These nights, whose cuts were worked out by hand; laid out by chance, the output exactly long enough and one
-    byte short."""
+    """Nights of rows without a location, with one, and with one to six covariances beside it."""
     kinds = {"o": row(), "p": row(**PLACED)}
     kinds |= {str(count): row(**PLACED, **dict(list(COVARIED.items())[:count])) for count in range(1, 7)}
-    for spelt, cuts in COVARIANCE_NIGHTS:
-        rows = [kinds[letter] for letter in spelt]
-        assert ades.shortest_cuts(rows) == cuts, (spelt, ades.shortest_cuts(rows))
-        packed = b"".join(block(part) for part in ades.parted(rows, cuts))
-        for room in (len(packed), len(packed) - 1):
-            report = random_layout(chance, rows)
-            assert ades.pack(report, room) == (("packed", packed) if room == len(packed) else ades.refused(15, 0, 0))
-            yield to_pack(report, room, chance.randrange(256))
-        packs_well(rows, chance)
+    yield from worked_out(chance, kinds, COVARIANCE_NIGHTS)
 
 
 def covariance_layouts(chance):
