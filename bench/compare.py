@@ -3,8 +3,9 @@
     python3 bench/compare.py CASES [COUNT]
 
 runs both on the cases of the case file and on COUNT reports with damage made by chance (20,000 if not
-said), each with night lists, and stops at the first difference. It needs an x86-64 machine with gcc, and
-the static library that `rt staticlib kyrrbolda` writes. reference/README.md says how the case file is made.
+said), each with lists of cuts and night lists, and stops at the first difference. It needs an x86-64 machine
+with gcc, and the static library that `rt staticlib kyrrbolda` writes. reference/README.md says how the case
+file is made.
 """
 
 import ctypes
@@ -25,10 +26,11 @@ import nights  # noqa: E402
 import reports  # noqa: E402
 
 GUARD = 64
-FENCE = bytes(range(0xC0, 0xC0 + GUARD))  # stands before and after a lent list
+FENCE = bytes(range(0xC0, 0xC0 + GUARD))  # stands before and after what is lent
 ARCHIVE = HERE.parent / "target" / "staticlib" / "libkyrrbolda.a"
 KINDS = {"no value": 0, "absent": 1, "whole": 2, "decimal": 3, "time": 4, "angle": 5, "scaled": 6}
 LOW = 10_000_000_000  # a covariance's whole number is high times this and low
+LARGEST = 65_535  # the largest number that a list of cuts can hold
 
 
 class Answer(ctypes.Structure):
@@ -40,8 +42,13 @@ class Answer(ctypes.Structure):
 
 
 class Counted(Answer):
-    """The answer of check, pack and a list's check: the fourth member is the observations, length or records."""
+    """The answer of check, write and a list's check: the fourth member is the observations, length or records."""
     _fields_ = [(name, ctypes.c_uint64) for name in ("refused", "line", "place", "count")]
+
+
+class Measured(Answer):
+    """kyrr_measured."""
+    _fields_ = Counted._fields_[:3] + [("length", ctypes.c_uint64), ("blocks", ctypes.c_uint64)]
 
 
 class Shown(Answer):
@@ -90,7 +97,7 @@ class Functions:
     def __init__(self, directory):
         plain = shared(directory, "plain.so", str(HERE / "plain.c"))
         box = shared(directory, "box.so", str(ARCHIVE))
-        output = (ctypes.c_void_p, ctypes.c_size_t)
+        lent = (ctypes.c_void_p, ctypes.c_size_t)
         request = (ctypes.c_uint64, ctypes.c_uint64)
 
         def both(name, answer, *more):
@@ -98,8 +105,9 @@ class Functions:
             return [function(plain, "plain_" + name, answer, *more), function(box, "kyrr_" + name, answer, *more)]
 
         self.checks = both("check", Counted)
-        self.packs = both("pack", Counted, *output)
-        self.night_writes = both("night_write", Done, ctypes.c_uint64, *output)
+        self.lengths = both("length", Measured, *lent)
+        self.writes = both("write", Counted, *lent, *lent)
+        self.night_writes = both("night_write", Done, ctypes.c_uint64, *lent)
         self.night_checks = both("night_check", Counted)
         self.night_reads = both("night_read", Record, ctypes.c_uint64)
         self.show = function(box, "kyrr_show", Shown, *request)
@@ -111,23 +119,22 @@ def members(answer, *rest):
     return (*answer[1:], *(0 for _ in rest)) if ades.is_refused(answer) else (0, 0, 0, *rest)
 
 
+def fenced(lent):
+    """Memory that holds these bytes between two fences."""
+    return ctypes.create_string_buffer(FENCE + lent + FENCE, len(lent) + 2 * GUARD)
+
+
+def within(memory):
+    """Where the bytes between the fences start."""
+    return ctypes.byref(memory, GUARD)
+
+
 def compare_check(functions, report):
     """The answers to a check."""
     answer = ades.check(report)
     for check in functions.checks:
         given = check(report, len(report)).members()
         assert given == members(answer, answer[1]), (report, answer, given)
-
-
-def compare_pack(functions, report, room, filling):
-    """The answers, the packed bytes, and every other byte of the output and past it."""
-    answer = ades.pack(report, room)
-    packed = b"" if ades.is_refused(answer) else answer[1]
-    for pack in functions.packs:
-        output = ctypes.create_string_buffer(bytes([filling]) * (room + GUARD), room + GUARD)
-        given = pack(report, len(report), output, room).members()
-        assert given == members(answer, len(packed)), (report, answer, given)
-        assert output.raw == packed + bytes([filling]) * (room + GUARD - len(packed)), (report, room)
 
 
 def of_value(answer):
@@ -174,14 +181,90 @@ def compare_covariances(functions, chance, report):
     compare_request(functions, report, 1, element)
 
 
+# ---- packing
+
+def of_cuts(cuts):
+    """The bytes of a list of cuts."""
+    return b"".join(number.to_bytes(2, "little") for number in cuts)
+
+
+def cuts_of(text):
+    """The list of cuts that has these bytes."""
+    return [int.from_bytes(text[at:at + 2], "little") for at in range(0, len(text), 2)]
+
+
+def asked(report):
+    """The reference's answer, and the length and the cuts in it: 0 and none where the report is refused."""
+    answer = ades.length(report)
+    return (answer, 0, []) if ades.is_refused(answer) else (answer, *answer[1:])
+
+
+def compare_length(functions, report, room, filling):
+    """The answers, every number of the list, and the bytes before and after it; the cuts, none of a refused report."""
+    answer, length, cuts = asked(report)
+    written = cuts if len(cuts) <= room else []
+    after = written + [filling] * (room - len(written))
+    for ask in functions.lengths:
+        memory = fenced(of_cuts([filling] * room))
+        given = ask(report, len(report), within(memory), room).members()
+        assert given == members(answer, length, len(cuts)), (report, room, answer, given)
+        assert memory.raw == FENCE + of_cuts(after) + FENCE, (report, room, after, memory.raw)
+    return cuts
+
+
+def compare_write(functions, report, cuts, room, filling):
+    """The answers, every byte of the output, and the bytes before and after it; the cuts, which stay."""
+    answer = ades.write(report, cuts, room)
+    packed = b"" if ades.is_refused(answer) else answer[1]
+    for write in functions.writes:
+        handed, memory = fenced(of_cuts(cuts)), fenced(bytes([filling]) * room)
+        given = write(report, len(report), within(handed), len(cuts), within(memory), room).members()
+        assert given == members(answer, len(packed)), (report, cuts, room, answer, given)
+        assert memory.raw == FENCE + packed + bytes([filling]) * (room - len(packed)) + FENCE, (report, cuts, room)
+        assert handed.raw == FENCE + of_cuts(cuts) + FENCE, (report, cuts, room)
+
+
+def compare_pair(functions, report, room, filling):
+    """The length asked with a list for the cuts of any report, and the report written by the cuts that this gave."""
+    cuts = compare_length(functions, report, ades.ROW_LIMIT, filling)
+    compare_write(functions, report, cuts, room, filling)
+
+
+def other_cuts(chance, cuts):
+    """Lists that are not these cuts but near them: none; all in one block; a 0 or a number by chance too many; in
+    another order; and at one place a number left out, another number, or one parted in two."""
+    at = chance.randrange(len(cuts) + 1)
+    before, here, after = cuts[:at], cuts[at:at + 1], cuts[at + 1:]
+    lists = [[], [sum(cuts)], cuts + [0], before + [chance.randrange(257)] + here + after,
+             chance.sample(cuts, len(cuts)), before + after]
+    for number in here:
+        part = chance.randrange(number + 1)
+        others = (number - 1, number + 1, number + 256, chance.randrange(257), LARGEST)
+        lists += [before + [other] + after for other in others] + [before + [part, number - part] + after]
+    return [other for other in lists if other != cuts]
+
+
+def compare_cuts(functions, chance, report):
+    """The length asked with lists of several lengths; the report written by its cuts into outputs of several lengths,
+    and by three lists that are not its cuts."""
+    _, length, cuts = asked(report)
+    for room in {0, max(len(cuts) - 1, 0), len(cuts), len(cuts) + chance.randint(1, 9)}:
+        compare_length(functions, report, room, chance.randrange(LARGEST + 1))
+    for room in {0, max(length - 1, 0), length, length + chance.randint(1, 400)}:
+        compare_write(functions, report, cuts, room, chance.randrange(256))
+    for other in chance.sample(other_cuts(chance, cuts), 3):
+        room = chance.choice((0, length // 2, length, len(report)))
+        compare_write(functions, report, other, room, chance.randrange(256))
+
+
 # ---- the night list
 
 def compare_night_write(functions, report, observation, lent):
     """The answers, every byte of the list, and the bytes before and after it; the list after the call."""
     answer, after = night.write(report, observation, lent)
     for write in functions.night_writes:
-        memory = ctypes.create_string_buffer(FENCE + lent + FENCE, len(lent) + 2 * GUARD)
-        given = write(report, len(report), observation, ctypes.byref(memory, GUARD), len(lent)).members()
+        memory = fenced(lent)
+        given = write(report, len(report), observation, within(memory), len(lent)).members()
         assert given == members(answer), (report, observation, len(lent), answer, given)
         assert memory.raw == FENCE + after + FENCE, (report, observation, lent, memory.raw)
     return after
@@ -267,7 +350,11 @@ def compare_stored(functions, case_file):
     for letter, first, second, text, lent in stored(pathlib.Path(case_file).read_bytes()):
         compare_check(functions, text)
         if letter == "P":
-            compare_pack(functions, text, first, second)
+            compare_pair(functions, text, first, second)
+        elif letter == "M":
+            compare_length(functions, text, first, second)
+        elif letter == "W":
+            compare_write(functions, text, cuts_of(lent), first, second)
         elif letter in "SV":
             compare_request(functions, text, first, second)
         elif letter == "N":
@@ -287,7 +374,7 @@ def compare_chance(functions, count):
     for _ in range(count):
         report = damage.random_report(chance, 12) if chance.random() < 0.3 else damage.random_damaged(chance, 3)
         compare_check(functions, report)
-        compare_pack(functions, report, chance.choice((0, len(report) // 2, len(report), 4000)), chance.randrange(256))
+        compare_cuts(functions, chance, report)
         compare_request(functions, report, chance.randrange(14), chance.randrange(len(ades.ELEMENTS) + 2))
         compare_covariances(functions, chance, report)
         compare_nights(functions, chance, report)

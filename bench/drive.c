@@ -1,14 +1,15 @@
 /* Runs the proved box and the plain implementation on one report:
  *
- *     drive REPORT compare            both answers and all output bytes are the same
+ *     drive REPORT compare            both answers and all that is written are the same
  *     drive REPORT time CALL          the time of one call of the proved function of that name in the table `calls` and of the plain
  *                                     one after it, in nanoseconds
  *     drive REPORT CALL               one call only, to count its instructions: the function of that name in the table; after it
  *                                     comes the function finished
  *
- * Beside checking and packing the calls value obsTime and posCov11 of the first observation, write the night list's record of the
- * first and of the last observation, which is refused where that is a radar one, and of all observations, each by its own call,
- * check a list of 256 records and read its last one.
+ * Beside checking the calls ask the length of the packed report, with a list that has room for all cuts, and write it by its cuts,
+ * which are asked before the call; value obsTime and posCov11 of the first observation; write the night list's record of the first
+ * and of the last observation, which is refused where that is a radar one, and of all observations, each by its own call; check a
+ * list of 256 records and read its last one.
  *
  * Declares the few functions of the C library that it needs, so that it can be built where only the linker's libraries of
  * x86-64 are. */
@@ -27,12 +28,13 @@ void *memcpy(void *to, const void *from, size_t count);
 int clock_gettime(int clock, moment *now);
 
 enum { OBS_TIME = 15, POS_COV11 = 38, POS_COV33 = 43 }; /* numbers of elements */
-enum { ROOM = 65536 + 64, RECORD = 40, RECORDS = 256, LIST = RECORD * RECORDS, MONOTONIC = 1, ROUNDS = 31 };
+enum { ROOM = 65536 + 64, CUTS = KYRR_ROW_LIMIT + 64, RECORD = 40, RECORDS = 256, LIST = RECORD * RECORDS, MONOTONIC = 1, ROUNDS = 31 };
 #define ROUND_NANOSECONDS 3000000
 
 static uint8_t report[ROOM], proved_output[ROOM], plain_output[ROOM], list[LIST + RECORD];
+static uint16_t cuts[CUTS], proved_cuts[CUTS], plain_cuts[CUTS];
 static size_t length;
-static uint64_t rows;
+static uint64_t rows, blocks;
 
 typedef void call(void);
 #define APART static __attribute__((noinline)) void /* a function that keeps its own name and place */
@@ -40,22 +42,24 @@ static volatile uint64_t sink;
 
 APART check_proved(void) { sink = kyrr_check(report, length).observations; }
 APART check_plain(void) { sink = plain_check(report, length).observations; }
-APART pack_proved(void) { sink = kyrr_pack(report, length, proved_output, ROOM).length; }
-APART pack_plain(void) { sink = plain_pack(report, length, plain_output, ROOM).length; }
+APART length_proved(void) { sink = kyrr_length(report, length, proved_cuts, CUTS).length; }
+APART length_plain(void) { sink = plain_length(report, length, plain_cuts, CUTS).length; }
+APART write_proved(void) { sink = kyrr_write(report, length, cuts, blocks, proved_output, ROOM).length; }
+APART write_plain(void) { sink = plain_write(report, length, cuts, blocks, plain_output, ROOM).length; }
 APART time_proved(void) { sink = (uint64_t)kyrr_value(report, length, 1, OBS_TIME).whole; }
 APART time_plain(void) { sink = (uint64_t)plain_obs_time(report, length, 1).day; }
 APART covariance_proved(void) { sink = kyrr_value(report, length, 1, POS_COV11).low; }
 APART covariance_plain(void) { sink = plain_covariance(report, length, 1, POS_COV11).low; }
-APART write_first_proved(void) { sink = kyrr_night_write(report, length, 1, proved_output, LIST).refused; }
-APART write_first_plain(void) { sink = plain_night_write(report, length, 1, plain_output, LIST).refused; }
-APART write_last_proved(void) { sink = kyrr_night_write(report, length, rows, proved_output, LIST).refused; }
-APART write_last_plain(void) { sink = plain_night_write(report, length, rows, plain_output, LIST).refused; }
-APART write_all_proved(void)
+APART night_first_proved(void) { sink = kyrr_night_write(report, length, 1, proved_output, LIST).refused; }
+APART night_first_plain(void) { sink = plain_night_write(report, length, 1, plain_output, LIST).refused; }
+APART night_last_proved(void) { sink = kyrr_night_write(report, length, rows, proved_output, LIST).refused; }
+APART night_last_plain(void) { sink = plain_night_write(report, length, rows, plain_output, LIST).refused; }
+APART night_all_proved(void)
 {
     for (uint64_t row = 1; row <= rows; row++)
         sink = kyrr_night_write(report, length, row, proved_output, LIST).refused;
 }
-APART write_all_plain(void)
+APART night_all_plain(void)
 {
     for (uint64_t row = 1; row <= rows; row++)
         sink = plain_night_write(report, length, row, plain_output, LIST).refused;
@@ -66,15 +70,16 @@ APART list_read_proved(void) { sink = kyrr_night_read(list, LIST, RECORDS).numbe
 APART list_read_plain(void) { sink = plain_night_read(list, LIST, RECORDS).number; }
 APART finished(void) { sink = 0; }
 
-enum { CALLS = 18 };
+enum { CALLS = 20 };
 static struct { const char *name; call *call; } calls[CALLS] = {
     { "check_proved", check_proved }, { "check_plain", check_plain },
-    { "pack_proved", pack_proved }, { "pack_plain", pack_plain },
+    { "length_proved", length_proved }, { "length_plain", length_plain },
+    { "write_proved", write_proved }, { "write_plain", write_plain },
     { "time_proved", time_proved }, { "time_plain", time_plain },
     { "covariance_proved", covariance_proved }, { "covariance_plain", covariance_plain },
-    { "write_first_proved", write_first_proved }, { "write_first_plain", write_first_plain },
-    { "write_last_proved", write_last_proved }, { "write_last_plain", write_last_plain },
-    { "write_all_proved", write_all_proved }, { "write_all_plain", write_all_plain },
+    { "night_first_proved", night_first_proved }, { "night_first_plain", night_first_plain },
+    { "night_last_proved", night_last_proved }, { "night_last_plain", night_last_plain },
+    { "night_all_proved", night_all_proved }, { "night_all_plain", night_all_plain },
     { "list_check_proved", list_check_proved }, { "list_check_plain", list_check_plain },
     { "list_read_proved", list_read_proved }, { "list_read_plain", list_read_plain }
 };
@@ -87,16 +92,44 @@ static int same_check(size_t bytes)
     return memcmp(&proved, &plain, sizeof proved) == 0;
 }
 
-/* Compares the answers of pack on the first bytes of the report and every byte of the outputs. */
-static int same_pack(size_t bytes, size_t room)
+/* Compares the answers of length on the first bytes of the report and every number of the lists. */
+static int same_length(size_t bytes, size_t room)
 {
-    kyrr_packed proved;
-    plain_packed plain;
+    kyrr_measured proved;
+    plain_measured plain;
+    memset(proved_cuts, 0xA5, sizeof proved_cuts);
+    memset(plain_cuts, 0xA5, sizeof plain_cuts);
+    proved = kyrr_length(report, bytes, proved_cuts, room);
+    plain = plain_length(report, bytes, plain_cuts, room);
+    return memcmp(&proved, &plain, sizeof proved) == 0 && memcmp(proved_cuts, plain_cuts, sizeof proved_cuts) == 0;
+}
+
+/* Compares the answers of write on the first bytes of the report, by the first numbers of the cuts, and every byte of the outputs. */
+static int same_write(size_t bytes, size_t numbers, size_t room)
+{
+    kyrr_written proved;
+    plain_written plain;
     memset(proved_output, 0xA5, ROOM);
     memset(plain_output, 0xA5, ROOM);
-    proved = kyrr_pack(report, bytes, proved_output, room);
-    plain = plain_pack(report, bytes, plain_output, room);
+    proved = kyrr_write(report, bytes, cuts, numbers, proved_output, room);
+    plain = plain_write(report, bytes, cuts, numbers, plain_output, room);
     return memcmp(&proved, &plain, sizeof proved) == 0 && memcmp(proved_output, plain_output, ROOM) == 0;
+}
+
+/* Asks the cuts of the first bytes of the report, and puts a 0 after them. */
+static plain_measured ask_cuts(size_t bytes)
+{
+    plain_measured asked = plain_length(report, bytes, cuts, CUTS);
+    cuts[asked.blocks] = 0;
+    return asked;
+}
+
+/* Compares the answers of length and write on the first bytes of the report: lists with room and without, its cuts and a 0 too many. */
+static int same_pair(size_t bytes)
+{
+    size_t numbers = ask_cuts(bytes).blocks;
+    return same_length(bytes, CUTS) && same_length(bytes, 0) && same_write(bytes, numbers, ROOM)
+        && same_write(bytes, numbers + 1, ROOM);
 }
 
 /* Compares the values of obsTime on the first bytes of the report. */
@@ -125,7 +158,7 @@ static int same_covariances(size_t bytes, uint64_t observation)
 }
 
 /* Compares the answers of a record's writing on the first bytes of the report and every byte of the outputs. */
-static int same_write(size_t bytes, uint64_t observation, size_t room)
+static int same_night_write(size_t bytes, uint64_t observation, size_t room)
 {
     kyrr_done proved;
     plain_done plain;
@@ -139,9 +172,9 @@ static int same_write(size_t bytes, uint64_t observation, size_t room)
 /* Compares all answers on the first bytes of the report. */
 static int same_report(size_t bytes)
 {
-    return same_check(bytes) && same_pack(bytes, ROOM) && same_time(bytes, 1) && same_time(bytes, rows)
-        && same_covariances(bytes, 1) && same_covariances(bytes, rows) && same_write(bytes, 1, LIST)
-        && same_write(bytes, rows, LIST);
+    return same_check(bytes) && same_pair(bytes) && same_time(bytes, 1) && same_time(bytes, rows)
+        && same_covariances(bytes, 1) && same_covariances(bytes, rows) && same_night_write(bytes, 1, LIST)
+        && same_night_write(bytes, rows, LIST);
 }
 
 /* Compares the answers of a check and a reading of the first bytes of the list. */
@@ -154,12 +187,37 @@ static int same_list(size_t bytes, uint64_t record)
     return memcmp(&proved, &plain, sizeof proved) == 0 && memcmp(&proved_record, &plain_record, sizeof proved_record) == 0;
 }
 
+/* Compares the answers of write by the first numbers of the cuts, with an output that is long enough, exactly so, one byte too short, and
+ * empty. */
+static int same_rooms(size_t numbers, size_t needed)
+{
+    return same_write(length, numbers, ROOM) && same_write(length, numbers, needed) && same_write(length, numbers, needed - 1)
+        && same_write(length, numbers, 0);
+}
+
+/* The report whole: lists with room for exactly its cuts and for one too few; its cuts, the last left out, a 0 too many, and each number
+ * one off. */
+static int compare_pair(void)
+{
+    plain_measured asked = ask_cuts(length);
+    int same = same_length(length, blocks) && same_length(length, blocks - 1) && same_rooms(blocks, asked.length)
+        && same_rooms(blocks - 1, asked.length) && same_rooms(blocks + 1, asked.length);
+    for (size_t place = 0; same && place < blocks; place++) {
+        cuts[place]++;
+        same = same_write(length, blocks, ROOM) && same_write(length, blocks, 0);
+        cuts[place] -= 2;
+        same = same && same_write(length, blocks, ROOM) && same_write(length, blocks, 0);
+        cuts[place]++;
+    }
+    return same;
+}
+
 /* The report whole, cut off at 64 places, and with one byte changed at 64 places; lists that are too short. */
 static int compare_reports(void)
 {
     static const uint8_t bytes[8] = { '|', '\n', ' ', '0', '#', 'A', '-', 0x7F };
-    int same = same_report(length) && same_pack(length, length / 2) && same_write(length, rows + 1, LIST)
-        && same_write(length, rows, RECORD * rows) && same_write(length, rows, RECORD * rows - 1);
+    int same = same_report(length) && (blocks == 0 || compare_pair()) && same_night_write(length, rows + 1, LIST)
+        && same_night_write(length, rows, RECORD * rows) && same_night_write(length, rows, RECORD * rows - 1);
     for (size_t turn = 0; same && turn < 64; turn++) {
         size_t place = turn * length / 64;
         uint8_t kept = report[place];
@@ -271,6 +329,7 @@ int main(int words, char **word)
         return usage();
     length = (size_t)read(file, report, ROOM);
     rows = plain_check(report, length).observations;
+    blocks = ask_cuts(length).blocks;
     make_list();
     if (words == 4)
         return strcmp(word[2], "time") == 0 ? time_calls(place_of(word[3])) : usage();

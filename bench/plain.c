@@ -1,7 +1,7 @@
 /* Checking, packing and a few values of ADES reports and the night list in plain C, written for speed and not
  * proved: the measure for the proved code. The report is read once, eight bytes at a time; where each value lies
  * is kept; the cuts are searched over runs of rows with the same elements, in each stretch of one kind.
- * Needs gcc or clang. No memory is allocated; packing uses about 58 kB of stack. */
+ * Needs gcc or clang. No memory is allocated; asking the length and writing each use about 60 kB of stack. */
 
 #include "plain.h"
 
@@ -828,6 +828,58 @@ static uint32_t search_stretches(const run *runs, uint32_t count, best *bests)
     return bytes;
 }
 
+/* What a report packs to: where its values lie, and the rows and columns of each block. */
+typedef struct {
+    kept table;
+    uint32_t blocks, bytes;
+    uint16_t cuts[ROW_LIMIT];
+    uint64_t columns[ROW_LIMIT];
+} plan;
+
+/* Notes the blocks of the shortest cutting. */
+static void note_blocks(const run *runs, uint32_t count, const best *bests, plan *made)
+{
+    uint32_t blocks = 0;
+    for (uint32_t first = 0; first < count; first = bests[first].last + 1) {
+        uint64_t set = 0;
+        uint32_t rows = 0;
+        for (uint32_t i = first; i <= bests[first].last; i++) {
+            set |= runs[i].set;
+            rows += runs[i].rows;
+        }
+        made->columns[blocks] = set;
+        made->cuts[blocks++] = (uint16_t)rows;
+    }
+    made->blocks = blocks;
+}
+
+/* Reads a report and, unless it is refused, searches its cuts. */
+static outcome plan_of(const uint8_t *report, size_t length, plan *made)
+{
+    run runs[ROW_LIMIT];
+    best bests[ROW_LIMIT + 1];
+    outcome read;
+    made->table.contents = 0;
+    read = read_report(report, length, &made->table, NULL);
+    if (!read.refused) {
+        uint32_t count = runs_of(made->table.rows, read.observations, runs);
+        made->bytes = made->table.contents + search_stretches(runs, count, bests);
+        note_blocks(runs, count, bests, made);
+    }
+    return read;
+}
+
+plain_measured plain_length(const uint8_t *report, size_t length, uint16_t *cuts, size_t cuts_length)
+{
+    plan made;
+    outcome read = plan_of(report, length, &made);
+    if (read.refused)
+        return (plain_measured){ read.refused, read.line, read.place, 0, 0 };
+    if (made.blocks <= cuts_length)
+        memcpy(cuts, made.cuts, made.blocks * sizeof *cuts);
+    return (plain_measured){ 0, 0, 0, made.bytes, made.blocks };
+}
+
 /* ---- writing */
 
 /* Where the next byte goes and where the packed report will end, and the report's end. Copies of
@@ -888,45 +940,27 @@ static void write_rows(writer *out, const uint8_t *report, uint64_t columns, con
     }
 }
 
-plain_packed plain_pack(const uint8_t *report, size_t length, uint8_t *output, size_t output_length)
+/* The handed cuts are compared with those found, and what is written goes by those found. */
+plain_written plain_write(const uint8_t *report, size_t length, const uint16_t *cuts, size_t cuts_length,
+                          uint8_t *output, size_t output_length)
 {
-    kept table;
-    run runs[ROW_LIMIT];
-    best bests[ROW_LIMIT + 1];
-    plain_packed answer = { 0, 0, 0, 0 };
-    outcome read;
+    plan made;
+    outcome read = plan_of(report, length, &made);
     writer out;
-    uint32_t count, total, first_row = 0;
-    table.contents = 0;
-    read = read_report(report, length, &table, NULL);
-    if (read.refused) {
-        answer.refused = read.refused;
-        answer.line = read.line;
-        answer.place = read.place;
-        return answer;
+    uint32_t first = 0;
+    if (read.refused)
+        return (plain_written){ read.refused, read.line, read.place, 0 };
+    if (cuts_length != made.blocks || memcmp(cuts, made.cuts, made.blocks * sizeof *cuts))
+        return (plain_written){ 24, 0, 0, 0 };
+    if (output_length < made.bytes)
+        return (plain_written){ 15, 0, 0, 0 };
+    out = (writer){ output, output + made.bytes, report + length };
+    for (uint32_t block = 0; block < made.blocks; block++) {
+        write_columns(&out, made.columns[block]);
+        write_rows(&out, report, made.columns[block], &made.table, first, first + made.cuts[block]);
+        first += made.cuts[block];
     }
-    if (read.observations == 0)
-        return answer;
-    count = runs_of(table.rows, read.observations, runs);
-    total = table.contents + search_stretches(runs, count, bests);
-    if (total > output_length) {
-        answer.refused = 15;
-        return answer;
-    }
-    out = (writer){ output, output + total, report + length };
-    for (uint32_t first = 0; first < count; first = bests[first].last + 1) {
-        uint64_t set = 0;
-        uint32_t rows = 0;
-        for (uint32_t i = first; i <= bests[first].last; i++) {
-            set |= runs[i].set;
-            rows += runs[i].rows;
-        }
-        write_columns(&out, set);
-        write_rows(&out, report, set, &table, first_row, first_row + rows);
-        first_row += rows;
-    }
-    answer.length = total;
-    return answer;
+    return (plain_written){ 0, 0, 0, made.bytes };
 }
 
 /* ---- the value of a covariance */

@@ -8,7 +8,8 @@
 
 /* refused is 0 or the refusal number; the other members are 0 where they do not apply. */
 typedef struct { uint64_t refused, line, place, observations; } plain_checked;
-typedef struct { uint64_t refused, line, place, length; } plain_packed;
+typedef struct { uint64_t refused, line, place, length, blocks; } plain_measured;
+typedef struct { uint64_t refused, line, place, length; } plain_written;
 typedef struct { uint64_t refused, line, place; int64_t day; uint64_t microseconds; } plain_timed;
 typedef struct { uint64_t refused, line, place, absent, negative, high, low; int64_t power; } plain_scaled;
 typedef struct { uint64_t refused, line, place; } plain_done;
@@ -22,8 +23,14 @@ typedef struct {
 
 plain_checked plain_check(const uint8_t *report, size_t length);
 
-/* The output must not overlap the report. */
-plain_packed plain_pack(const uint8_t *report, size_t length, uint8_t *output, size_t output_length);
+/* The length of the packed report and the number of its blocks; the cuts, which are the blocks' numbers of rows, are
+ * written over the start of the list where it has room for all of them. The list must not overlap the report. */
+plain_measured plain_length(const uint8_t *report, size_t length, uint16_t *cuts, size_t cuts_length);
+
+/* Writes the packed report. 24 where the cuts are not those that plain_length gives for the report, then 15. The output
+ * must overlap neither the report nor the cuts. */
+plain_written plain_write(const uint8_t *report, size_t length, const uint16_t *cuts, size_t cuts_length,
+                          uint8_t *output, size_t output_length);
 
 /* The day number and the microseconds of the day of an observation's obsTime. */
 plain_timed plain_obs_time(const uint8_t *report, size_t length, uint64_t observation);

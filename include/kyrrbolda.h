@@ -1,27 +1,27 @@
 /* kyrrbolda.h: the proved reporting box, as C and C++ see it.
  *
  * The library checks a report of ADES observations, optical and radar (pipe-separated text, edition 2022), shows and values each
- * element, packs a report into the shortest one that holds the same observations, writes and reads night lists, and names the
- * elements. docs/PROMISES.md says what is proved of each function.
+ * element, packs a report into the shortest one that holds the same observations, by two calls (the length first), writes and
+ * reads night lists, and names the elements. docs/PROMISES.md says what is proved of each function.
  *
  * Link target/staticlib/libkyrrbolda.a, which `rt staticlib kyrrbolda` writes for x86-64.
  *
  * For every call:
  *  - Any bytes of any length may be handed in. A pointer is never null: an empty report, list or output is a valid pointer with
  *    length 0.
- *  - A report or a name is only read, and so is a list that is checked or read. What is written to, an output or the list of
- *    kyrr_night_write, must not overlap the report.
+ *  - A report or a name is only read, and so are a list that is checked or read and the cuts that are handed to kyrr_write. What is
+ *    written to, an output or the list of kyrr_length or kyrr_night_write, must overlap neither the report nor the cuts.
  *  - No memory is kept, allocated or freed; calls from several threads at once do not disturb one another.
  *  - Stack, the return address included: 2,048 bytes are enough for kyrr_check, kyrr_show, kyrr_value and kyrr_night_write, 76,800
- *    for kyrr_pack, of one row as of 256, and 512 for kyrr_night_check, kyrr_night_read, kyrr_name and kyrr_element. Measured and
- *    not proved, with the library as `rt staticlib` builds it with LLVM 22.1.8; docs/SPEED.md has the exact figures. A program that
- *    binds memcpy and memset only at their first call needs 4,096 more for that.
+ *    for kyrr_length and for kyrr_write, of one row as of 256, and 512 for kyrr_night_check, kyrr_night_read, kyrr_name and
+ *    kyrr_element. Measured and not proved, with the library as `rt staticlib` builds it with LLVM 22.1.8; docs/SPEED.md has the
+ *    exact figures. A program that binds memcpy and memset only at their first call needs 4,096 more for that.
  *  - `refused` is 0, or the number of the refusal (kyrr_refusal below); `line` and `place` say where it is. Where a call is refused
  *    the other fields are 0 and no lent byte has changed. Where it is not, `line` and `place` are 0. kyrr_name and kyrr_element
  *    refuse nothing: they answer 0 where there is no such element.
  *  - Lines, observations and records count from 1. `place` is the column's position from 1 for refusals 6 to 10, the element number
  *    for 11, 12, 13 and 22, the record's number for 20, and else 0. `line` is 0 for a fault of the whole text, of the request or of
- *    a list (1, 15, 16, 17, 19, 20, 23).
+ *    a list (1, 15, 16, 17, 19, 20, 23, 24).
  */
 #ifndef KYRRBOLDA_H
 #define KYRRBOLDA_H
@@ -37,7 +37,8 @@ extern "C" {
  * length is always long enough. */
 #define KYRR_TEXT_LIMIT 65536
 
-/* The most observations of a report. */
+/* The most observations of a report. No packed report has more blocks, so a list of this many numbers always has room for its
+ * cuts. */
 #define KYRR_ROW_LIMIT 256
 
 /* The elements, numbered from 1 in this order: permID, provID, artSat, trkSub, obsID, obsSubID, mode, stn, sys, ctr, pos1, pos2,
@@ -84,7 +85,8 @@ enum kyrr_refusal {
     KYRR_BAD_RECORD = 20,          /* no accepted observation at that place could have written the record */
     KYRR_KINDS_MIXED = 21,         /* an observation of another kind, optical or radar, than those before it in its block */
     KYRR_ELEMENT_FOREIGN = 22,     /* an element that is foreign to its radar observation; place is the lowest such element */
-    KYRR_NOT_OPTICAL = 23          /* a radar observation, which has no record in a night list */
+    KYRR_NOT_OPTICAL = 23,         /* a radar observation, which has no record in a night list */
+    KYRR_CUTS_DIFFER = 24          /* the cuts are not those that kyrr_length gives for the report */
 };
 
 /* What kind of value an element has. */
@@ -116,7 +118,10 @@ typedef struct {
     int64_t power;
 } kyrr_valued;
 
-typedef struct { uint64_t refused, line, place, length; } kyrr_packed;
+/* `length` is that of the packed report in bytes, `blocks` how many blocks, and so how many cuts, it has. */
+typedef struct { uint64_t refused, line, place, length, blocks; } kyrr_measured;
+
+typedef struct { uint64_t refused, line, place, length; } kyrr_written;
 
 typedef struct { uint64_t refused, line, place; } kyrr_done;
 
@@ -135,10 +140,20 @@ kyrr_shown kyrr_show(const uint8_t *report, size_t report_length, uint64_t obser
 /* The exact value of an element of an observation, by its kind (kyrr_kind). Refusals of kyrr_check, then 16, then 17. */
 kyrr_valued kyrr_value(const uint8_t *report, size_t report_length, uint64_t observation, uint64_t element);
 
-/* Writes the packed report over the start of the output and gives its length; the bytes of the output after it stay as they were.
- * The packed report reads as the same observations in the same order, and no report that does is shorter. Refusals of kyrr_check;
- * then 15, exactly where the output is shorter than the packed report. The empty report packs to nothing: length 0. */
-kyrr_packed kyrr_pack(const uint8_t *report, size_t report_length, uint8_t *output, size_t output_length);
+/* Packing, the first call: how long the packed report is, how many blocks it has, and its cuts, the numbers of rows of its blocks in
+ * order. The packed report reads as the same observations in the same order, and no report that does is shorter; of several cuttings
+ * as short it is the one with most rows in its first block, then in its second, and so on. The cuts are written over the start of the
+ * list where that has room for all of them, and the numbers after them stay as they were. Where it has none, no number of it changes
+ * and the answer is the same: ask with length 0 for the length alone. Refusals of kyrr_check. The empty report has length 0 and no
+ * block. */
+kyrr_measured kyrr_length(const uint8_t *report, size_t report_length, uint16_t *cuts, size_t cuts_length);
+
+/* Packing, the second call: writes the packed report over the start of the output, and gives its length; the bytes of the output after
+ * it stay as they were. Hand in the cuts that kyrr_length gave for that report, `cuts_length` being its `blocks`, no more and no fewer.
+ * Refusals of kyrr_check; then 24, exactly where the numbers handed in are not those cuts, another cutting as short among them; then
+ * 15, exactly where the output is shorter than the length that kyrr_length gives. */
+kyrr_written kyrr_write(const uint8_t *report, size_t report_length, const uint16_t *cuts, size_t cuts_length, uint8_t *output,
+                        size_t output_length);
 
 /* Writes the record of an observation over the 40 bytes at its place in the list; every other byte of the list stays as it was.
  * Refusals of kyrr_check; then 16; then 23, exactly for a radar observation; then 19, exactly where the list is shorter than 40

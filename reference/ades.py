@@ -1,5 +1,5 @@
 """The reference: what document 01 says of a report, of its elements and of packing, document 02's order 3 of radar
-observations and its order 5 of covariances, written for reading.
+observations, its order 5 of covariances and its order 6 of asking the length first, written for reading.
 
 An answer is a tuple whose first member is a word. `read` gives
     ("accepted", observations, starts)   or   ("refused", number, line, place).
@@ -407,11 +407,32 @@ def every_cutting(count):
     return [[rows] + rest for rows in range(1, count + 1) for rest in every_cutting(count - rows)]
 
 
-def pack(report, output_length):
-    """("packed", bytes) or the refusal; 15 where the lent output is shorter than the packed report."""
+# ---- the length first, then writing by the cuts (order 6)
+
+def length(report):
+    """("measured", length, cuts), the shortest length and the blocks' numbers of rows in order, or the refusal."""
     answer = read(report)
     if is_refused(answer):
         return answer
     observations = answer[1]
-    packed = written(observations, shortest_cuts(observations))
+    cuts = shortest_cuts(observations)
+    return ("measured", sum(map(block_bytes, parted(observations, cuts))), cuts)
+
+
+def write(report, cuts, output_length):
+    """("packed", bytes) or the refusal: after those of the report 24 where the cuts handed in are not the ones that
+    `length` gives for it, then 15 where the lent output is shorter than the packed report."""
+    answer = read(report)
+    if is_refused(answer):
+        return answer
+    observations = answer[1]
+    if cuts != shortest_cuts(observations):
+        return refused(24, 0, 0)
+    packed = written(observations, cuts)
     return refused(15, 0, 0) if len(packed) > output_length else ("packed", packed)
+
+
+def pair(report, output_length):
+    """The answers of both, `write` being handed the cuts that `length` gave; none where the report is refused."""
+    measured = length(report)
+    return measured, write(report, [] if is_refused(measured) else measured[2], output_length)

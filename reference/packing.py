@@ -94,9 +94,9 @@ def bare_points(chance):
     rows = [row(ra=ra, dec=dec, mag=mag, band=b"G") for ra, dec, mag in (
         (b"12", b"-.5", b"12"), (b"12.", b"-0.5", b"12."), (b"12.0", b"90.", b"12.0"), (b".5", b"90", b"+12."))]
     for report in (SPELT, block(rows, list(ELEMENTS), chance), b"".join(block([each]) for each in rows)):
-        assert ades.pack(report, len(SPELT)) == ("packed", SPELT)
+        assert ades.pair(report, len(SPELT))[1] == ("packed", SPELT)
         yield from pack_cases(chance, report)
-        assert ades.pack(report, len(SPELT) - 1) == ades.refused(15, 0, 0)
+        assert ades.pair(report, len(SPELT) - 1)[1] == ades.refused(15, 0, 0)
         yield to_pack(report, len(SPELT) - 1, chance.randrange(256))
     for name in ("pos1", "pos2", "pos3", "mag", "doppler"):
         yield from pack_cases(chance, random_layout(chance, [row_with(name, text) for text in SPELLINGS]), 2)
@@ -132,7 +132,8 @@ def worked_out(chance, kinds, table):
         packed = b"".join(block(part) for part in ades.parted(rows, cuts))
         for room in (len(packed), len(packed) - 1):
             report = random_layout(chance, rows)
-            assert ades.pack(report, room) == (("packed", packed) if room == len(packed) else ades.refused(15, 0, 0))
+            answer = ("packed", packed) if room == len(packed) else ades.refused(15, 0, 0)
+            assert ades.pair(report, room) == (("measured", len(packed), cuts), answer)
             yield to_pack(report, room, chance.randrange(256))
         packs_well(rows, chance)
 
@@ -146,7 +147,7 @@ def radar_layouts(chance):
     """Columns in any order, padding and empty columns of the other kind; values keep their bytes."""
     reverse = list(ELEMENTS)[::-1]
     for specimen in (DELAY_SPECIMEN, DOPPLER_SPECIMEN):
-        assert ades.pack(specimen, len(specimen)) == ("packed", specimen)
+        assert ades.pair(specimen, len(specimen))[1] == ("packed", specimen)
         for room in (len(specimen), len(specimen) - 1, len(specimen) + 1, 0):
             yield to_pack(specimen, room, chance.randrange(256))
     for rows in ([whole_delay_row()], [whole_doppler_row()], [delay_row(), whole_doppler_row(), delay_row()],
@@ -221,7 +222,7 @@ def covariance_layouts(chance):
     for specimen, rows in ((ROVING_SPECIMEN, [roving_row()]), (WHOLE, [whole_row()])):
         by_number, reverse = block(rows, sorted(rows[0])), block(rows, sorted(rows[0], reverse=True))
         for report in (specimen, by_number, reverse, block(rows, sorted(ELEMENTS), chance)):
-            assert ades.pack(report, len(specimen)) == ("packed", specimen)
+            assert ades.pair(report, len(specimen))[1] == ("packed", specimen)
             for room in (len(specimen), len(specimen) - 1):
                 yield to_pack(report, room, chance.randrange(256))
         for room in (len(specimen) + 1, 0, len(specimen) // 2):

@@ -28,7 +28,12 @@ ROVING_COLUMNS = b"trkSub|mode|stn|sys|ctr|pos1|pos2|pos3|posCov11|posCov33|obsT
 ROVING_ROW = b"a1|CCD|247|WGS84|399|-110.79|+32.4|2510|1.5e-3|-.25|2024-03-01T04:05:06.5Z|10.5|-0.25|Gaia2\n"
 ROVING_SPECIMEN = VERSION + ROVING_COLUMNS + ROVING_ROW
 
-# A case is a letter, two numbers and two texts, of which the second is empty but where a record is written.
+# A case is a letter, two numbers and two texts, of which the second is empty but where a record is written or cuts are
+# handed in.
+
+# The most numbers that a list of cuts has, lent or handed in, and the largest number in it.
+LONGEST_LIST = 1_100
+LARGEST_NUMBER = 65_535
 
 
 def to_check(report):
@@ -47,8 +52,20 @@ def to_value(report, observation, element):
 
 
 def to_pack(report, room, filling):
-    """A case that packs into so much room, filled with a byte before."""
+    """A case that asks the length and writes by the cuts given into so much room, filled with a byte before."""
     return ("P", room, filling, report, b"")
+
+
+def to_measure(report, room, filling):
+    """A case that asks the length and lends a list of so many numbers, filled with a number before."""
+    assert 0 <= room <= LONGEST_LIST and 0 <= filling <= LARGEST_NUMBER
+    return ("M", room, filling, report, b"")
+
+
+def to_write_by(report, cuts, room, filling):
+    """A case that writes by these cuts, two bytes each, into so much room, filled with a byte before."""
+    assert len(cuts) <= LONGEST_LIST
+    return ("W", room, filling, report, b"".join(cut.to_bytes(2, "little") for cut in cuts))
 
 
 def to_write(report, observation, lent):

@@ -1,4 +1,4 @@
-"""Sums of document 01 and of orders 2, 3 and 5, and checks of the reference against itself, made before any case is
+"""Sums of document 01 and of orders 2, 3, 5 and 6, and checks of the reference against itself, made before any case is
 written."""
 
 import datetime
@@ -89,8 +89,8 @@ def sums_of_radar():
     assert len(DELAY_SPECIMEN) == 15 + 46 + 8 + 43 and len(DOPPLER_SPECIMEN) == 15 + 50 + 8 + 44
     assert DELAY_SPECIMEN == block([delay_row()]) and DOPPLER_SPECIMEN == block([doppler_row()])
     mixed = SPECIMEN + DELAY_SPECIMEN + SPECIMEN
-    assert ades.pack(mixed, 1000) == ("packed", mixed)
-    assert ades.pack(DELAY_SPECIMEN * 2, 1000) == ("packed", DELAY_SPECIMEN + DELAY_ROW)
+    assert ades.pair(mixed, 1000)[1] == ("packed", mixed)
+    assert ades.pair(DELAY_SPECIMEN * 2, 1000)[1] == ("packed", DELAY_SPECIMEN + DELAY_ROW)
     for number, length, answer in (
             (2, 0, 23), (2, 79, 23), (2, 80, 23), (4, 0, 16), (0, 0, 16), (3, 119, 19), (1, 39, 19)):
         assert night.write(mixed, number, bytes(length)) == (ades.refused(answer, 0, 0), bytes(length))
@@ -132,8 +132,8 @@ def sums_of_covariances():
     assert ades.check(block([row(), roving_row(), whole_row()])) == ("accepted", 3)
     # The version line, the names with a byte each, the ends of the row's fields, its values.
     assert len(ROVING_SPECIMEN) == 15 + 79 + 14 + 78 and ROVING_SPECIMEN == block([roving_row()])
-    assert ades.pack(ROVING_SPECIMEN, 186) == ("packed", ROVING_SPECIMEN)
-    assert ades.pack(ROVING_SPECIMEN * 2, 1000) == ("packed", ROVING_SPECIMEN + ROVING_ROW)
+    assert ades.pair(ROVING_SPECIMEN, 186)[1] == ("packed", ROVING_SPECIMEN)
+    assert ades.pair(ROVING_SPECIMEN * 2, 1000)[1] == ("packed", ROVING_SPECIMEN + ROVING_ROW)
     assert ades.columns_of([whole_row()]) == [*range(1, 14), *range(38, 44), *range(14, 30)]
     assert len(whole_row()) == 35
     assert night.write(ROVING_SPECIMEN, 1, bytes(40)) == night.write(SPECIMEN.replace(b"W84", b"247"), 1, bytes(40))
@@ -157,8 +157,29 @@ def sums_to_be_run():
     assert bytes_before_values(run_rows(54), [55]) == 501
     assert bytes_before_values(run_rows(54), [54, 1]) == 500
     assert ades.shortest_cuts(run_rows(54)) == [54, 1]
-    assert ades.pack(SPECIMEN, 104) == ("packed", SPECIMEN)
-    assert ades.pack(b"", 0) == ("packed", b"")
+    assert ades.pair(SPECIMEN, 104)[1] == ("packed", SPECIMEN)
+    assert ades.pair(b"", 0)[1] == ("packed", b"")
+
+
+def sums_of_cuts():
+    """Order 6: the length and the cuts of the empty report, of the specimen, of a mixed report and of the sums to be
+    run; 24 for any other cuts, after the report's own refusal and before 15."""
+    mixed = SPECIMEN + DELAY_SPECIMEN + ROVING_SPECIMEN * 2
+    for report, length, cuts in ((b"", 0, []), (SPECIMEN, 104, [1]), (SPECIMEN * 2, 155, [2]),
+                                 (mixed, 104 + 112 + 186 + 92, [1, 1, 2])):
+        assert ades.length(report) == ("measured", length, cuts)
+        assert ades.write(report, cuts, length)[0] == "packed"
+        assert length == 0 or ades.write(report, cuts, length - 1) == ades.refused(15, 0, 0)
+        for other in (cuts + [0], cuts + [1], [0] + cuts, [256] + cuts[1:], [65_535]):
+            assert all(ades.write(report, other, room) == ades.refused(24, 0, 0) for room in (0, length, 1000))
+    assert ades.write(mixed, [1, 2, 1], 1000) == ades.write(mixed, [1, 1], 1000) == ades.refused(24, 0, 0)
+    assert ades.write(SPECIMEN * 2, [1, 1], 1000) == ades.write(SPECIMEN * 2, [], 0) == ades.refused(24, 0, 0)
+    for count, right, other in ((53, [54], [53, 1]), (54, [54, 1], [55])):
+        report = block(run_rows(count))
+        assert ades.length(report) == ("measured", len(ades.written(run_rows(count), right)), right)
+        assert ades.write(report, other, 10_000) == ades.refused(24, 0, 0)
+    for cuts in ([], [1], [0], [2, 1]):
+        assert ades.length(SPECIMEN[:-1]) == ades.write(SPECIMEN[:-1], cuts, 0) == ades.refused(2, 3, 0)
 
 
 def day_numbers():
@@ -247,12 +268,55 @@ def packed_among_readable(rows):
     return max(readable)[2]
 
 
+def pairs_well(report, packed, cuts):
+    """The report's length is that of the packed one, which is written by the cuts into exactly so much room and not
+    into a byte less."""
+    assert ades.pair(report, len(packed)) == (("measured", len(packed), cuts), ("packed", packed))
+    assert packed == b"" or ades.write(report, cuts, len(packed) - 1) == ades.refused(15, 0, 0)
+
+
+def near_cuttings(count):
+    """The ways to part so many rows, one fewer and one more, each also with a 0 before it and after it."""
+    for cutting in itertools.chain(*map(ades.every_cutting, (count - 1, count, count + 1))):
+        yield from (cutting, [0] + cutting, cutting + [0])
+
+
+def small_lists(count):
+    """Every list of at most one number more than there are rows, none of them larger than that."""
+    for length in range(count + 2):
+        yield from map(list, itertools.product(range(count + 2), repeat=length))
+
+
+def written_by_its_cuts_alone(rows, report, lists):
+    """Of these lists only the report's own cuts, which are among them, are not 24, with enough room and with none."""
+    _, length, cuts = ades.length(report)
+    is_met = False
+    for handed in lists:
+        if handed == cuts:
+            is_met = True
+            assert ades.write(report, handed, length) == ("packed", ades.pack_by_every_cutting(rows))
+        else:
+            assert all(ades.write(report, handed, room) == ades.refused(24, 0, 0) for room in (length, 0)), handed
+    assert is_met
+
+
+def check_cuts(chance):
+    """Reports by chance of one to three rows with every small list, of four to seven with every near cutting."""
+    for count, lists, times in ((1, small_lists, 6), (2, small_lists, 6), (3, small_lists, 4), (4, near_cuttings, 6),
+                                (5, near_cuttings, 6), (6, near_cuttings, 4), (7, near_cuttings, 4)):
+        for _ in range(times):
+            rows = random_rows(chance, count, random_shapes(chance, 2))
+            written_by_its_cuts_alone(rows, random_layout(chance, rows), lists(count))
+
+
 def packs_well(rows, chance, layouts=3):
     """The packed report reads as the same observations, is as long as the sum of its blocks' bytes,
-    is the one found by every cutting where the rows are few, and is no longer than other layouts."""
+    is the one found by every cutting where the rows are few, and is no longer than other layouts. The cuts come to all
+    the rows, none of them is 0, and the pair gives it of the last layout."""
     cuts = ades.shortest_cuts(rows)
-    packed = ades.written(rows, cuts)
+    layout = packed = ades.written(rows, cuts)
     assert ades.read(packed)[1] == rows
+    assert sum(cuts) == len(rows) and 0 not in cuts
     firsts = [sum(cuts[:count]) for count in range(len(cuts))]
     assert len(packed) == sum(ades.block_bytes(rows[first:first + count]) for first, count in zip(firsts, cuts))
     if len(rows) <= 9:
@@ -262,6 +326,7 @@ def packs_well(rows, chance, layouts=3):
     for _ in range(layouts):
         layout = random_layout(chance, rows)
         assert ades.read(layout)[1] == rows and len(layout) >= len(packed)
+    pairs_well(layout, packed, cuts)
 
 
 # ---- the night list
@@ -359,10 +424,12 @@ def check_reference(chance):
     sums_of_radar()
     sums_of_covariances()
     sums_to_be_run()
+    sums_of_cuts()
     day_numbers()
     short_decimals()
     covariances_as_doubles(chance)
     for _ in range(250):
         shapes = random_shapes(chance, chance.choice((1, 2, 3)))
         packs_well(random_rows(chance, chance.randint(1, 8), shapes), chance)
+    check_cuts(chance)
     check_night_list(chance)

@@ -6,12 +6,13 @@ use words::number::Number;
 use words::print;
 
 // For each command its name, the fewest and the most words that follow it, what they are, and what it answers.
-const COMMANDS: [u8; 938] =
+const COMMANDS: [u8; 1030] =
     *b"check|1|65536|FILE..|how many observations a report has, or its first fault\n\
     show|3|3|FILE OBSERVATION ELEMENT|a value's own bytes\n\
     value|3|3|FILE OBSERVATION ELEMENT|a value as an exact number\n\
     list|1|1|FILE|every value of every observation\n\
     faults|1|1|FILE|every fault that can be told, one a line\n\
+    length|1|1|FILE|how long the shortest report of the same observations is, and what it saves\n\
     pack|2|2|FILE OUT|the shortest report of the same observations\n\
     join|2|65536|OUT FILE..|the same of several reports, one after the other\n\
     night|2|2|FILE LIST|the night list of a report, a record for each observation\n\
@@ -46,6 +47,7 @@ pub(crate) enum Command {
     Value,
     List,
     Faults,
+    Length,
     Pack,
     Join,
     Night,
@@ -72,16 +74,17 @@ pub(crate) fn command_at(row: usize) -> Command {
         2 => Command::Value,
         3 => Command::List,
         4 => Command::Faults,
-        5 => Command::Pack,
-        6 => Command::Join,
-        7 => Command::Night,
-        8 => Command::Records,
-        9 => Command::Audit,
-        10 => Command::Element,
-        11 => Command::Refusal,
-        12 => Command::Run,
-        13 | 15 => Command::Help,
-        14 | 16 => Command::Version,
+        5 => Command::Length,
+        6 => Command::Pack,
+        7 => Command::Join,
+        8 => Command::Night,
+        9 => Command::Records,
+        10 => Command::Audit,
+        11 => Command::Element,
+        12 => Command::Refusal,
+        13 => Command::Run,
+        14 | 16 => Command::Help,
+        15 | 17 => Command::Version,
         _ => Command::Unknown,
     }
 }

@@ -1,4 +1,4 @@
-// ades: reports of observations checked, shown, valued, listed, packed, joined and audited; night lists written and read.
+// ades: reports of observations checked, shown, valued, listed, measured, packed, joined and audited; night lists written and read.
 mod asking;
 mod auditing;
 mod checking;

@@ -142,6 +142,7 @@ fn answer(kind: Command, command: &[u8], text: &[u8]) -> usize {
         Command::Value => valuing::obey(command, text),
         Command::List => checking::list(text),
         Command::Faults => checking::list_faults(text),
+        Command::Length => packing::tell_length(text),
         Command::Pack => packing::pack_into(word(command, 2), text),
         Command::Night => recording::obey(command, text),
         Command::Records => recording::tell(text),

@@ -1,4 +1,4 @@
-// The answers of `show`, `value`, `list`, `pack`, `night` and `records`, as a person is told them.
+// The answers of `show`, `value`, `list`, `length`, `pack`, `night` and `records`, as a person is told them.
 pub mod list;
 pub mod packed;
 pub mod records;

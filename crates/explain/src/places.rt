@@ -61,6 +61,7 @@ fn mark_of(kind: Kind) -> Mark {
         Kind::BlockUnfinished | Kind::TooManyRows | Kind::KindsMixed => Mark::Nothing,
         Kind::OutputTooShort | Kind::NoObservation | Kind::NoElement => Mark::Nothing,
         Kind::ListTooShort | Kind::BadRecord | Kind::NotOptical => Mark::Nothing,
+        Kind::CutsDiffer => Mark::Nothing,
     }
 }
 

@@ -8,7 +8,7 @@ use report::TEXT_LIMIT;
 use words::print;
 
 // How many refusals there are.
-pub const REFUSALS: usize = 23;
+pub const REFUSALS: usize = 24;
 
 // What the table says of a refusal, by column: the rule that is broken, what to do, what line and place are, which definition states the rule.
 const RULE: usize = 0;
@@ -134,8 +134,8 @@ fn print_entry(row: usize, column: usize) {
             ctr|`groupFault` (crates/element/specs/Observation.antt)\n\
           The report has more data lines than it may have.|Part it into several reports.|the first data line past the limit|0|`dataLine` \
             (crates/report/specs/Report.antt)\n\
-          The output is shorter than the packed report.|Lend a longer one: as long as the report is always enough.|0|0|`packedAnswer` \
-            (crates/pack/specs/Promise.antt)\n\
+          The output is shorter than the packed report.|Lend a longer one: `ades length` says how long, and as long as the report is always \
+            enough.|0|0|`packedAnswer` (crates/pack/specs/Promise.antt)\n\
           The report has no observation, or the list no record, of that number.|`ades check` says how many observations a report has, \
             `ades records` how many records a list has; both are numbered from 1.|0|0|`showingAnswer`, `valuedAnswer` \
             (crates/report/specs/Answers.antt), `writtenAnswer`, `recordAnswer` (crates/night/specs/List.antt)\n\
@@ -152,7 +152,9 @@ fn print_entry(row: usize, column: usize) {
           The element is foreign to the kind of its observation.|Leave it out, or write it in an observation to which it belongs.|the data \
             line|the number of the lowest such element|`radarFault` (crates/element/specs/Observation.antt)\n\
           The observation is radar, and a night list has records of optical ones alone.|Write the list of a report that has no radar \
-            observation.|0|0|`writtenAnswer` (crates/night/specs/List.antt)\n",
+            observation.|0|0|`writtenAnswer` (crates/night/specs/List.antt)\n\
+          The cuts are not those that measuring gives for this report.|Measure the report, and hand on the cuts as they are given, one for \
+            each block.|0|0|`writtenAnswer` (crates/pack/specs/Promise.antt)\n",
         row,
         column,
     ));

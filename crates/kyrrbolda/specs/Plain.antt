@@ -7,11 +7,12 @@ use lib.IntN.{ℤ, pos}
 use Rattle.refusal.specs.Paper.{Answer, refusedBy, absent, given}
 use Rattle.value.specs.Paper.{Exact, noValue, whole, decimal, time, angle, scaled}
 use Rattle.element.specs.Observation.{bit}
-use Rattle.pack.specs.Promise.{PackPromised}
+use Rattle.pack.specs.Promise.{MeasurePromised, WritePromised}
 use Rattle.kyrrbolda.specs.declared.KyrrChecked.{KyrrChecked}
 use Rattle.kyrrbolda.specs.declared.KyrrShown.{KyrrShown}
 use Rattle.kyrrbolda.specs.declared.KyrrValued.{KyrrValued}
-use Rattle.kyrrbolda.specs.declared.KyrrPacked.{KyrrPacked}
+use Rattle.kyrrbolda.specs.declared.KyrrMeasured.{KyrrMeasured}
+use Rattle.kyrrbolda.specs.declared.KyrrWritten.{KyrrWritten}
 
 -- The answer of a check: how many observations.
 abbrev pub plainChecked : Answer ℕ → KyrrChecked
@@ -77,14 +78,27 @@ plainValued (given (time day microseconds)) = valuedAs 4 day microseconds
 plainValued (given (angle units)) = valuedAs 5 units 0
 plainValued (given (scaled negative high low power)) = scaledPlainly negative high low power
 
--- The answer of packing: how many bytes.
-abbrev pub plainPacked : Answer ℕ → KyrrPacked
-plainPacked (refusedBy x) = record { refused = x .number; line = x .line; place = x .place; length = 0 }
-plainPacked absent = record { refused = 0; line = 0; place = 0; length = 0 }
-plainPacked (given n) = record { refused = 0; line = 0; place = 0; length = n }
+-- The answer of measuring: how many bytes, and how many blocks.
+abbrev pub plainMeasured : Answer (ℕ × ℕ) → KyrrMeasured
+plainMeasured (refusedBy x) = record { refused = x .number; line = x .line; place = x .place; length = 0; blocks = 0 }
+plainMeasured absent = record { refused = 0; line = 0; place = 0; length = 0; blocks = 0 }
+plainMeasured (given pair) = record { refused = 0; line = 0; place = 0; length = pair .0; blocks = pair .1 }
 
--- What packing promises: the promise of the output before and after, with the paper's answer as a plain struct.
-pub record PackedPlainly (report before after : List ℕ) (answer : KyrrPacked) : Type 0 where
+-- What measuring promises: the promise of the list lent for the cuts before and after, with the paper's answer as a plain struct.
+pub record MeasuredPlainly (report before after : List ℕ) (answer : KyrrMeasured) : Type 0 where
+  pub paper : Answer (ℕ × ℕ)
+  pub promised : MeasurePromised report before after paper
+  pub is : answer ≡ plainMeasured paper
+
+-- The answer of writing: how many bytes.
+abbrev pub plainWritten : Answer ℕ → KyrrWritten
+plainWritten (refusedBy x) = record { refused = x .number; line = x .line; place = x .place; length = 0 }
+plainWritten absent = record { refused = 0; line = 0; place = 0; length = 0 }
+plainWritten (given n) = record { refused = 0; line = 0; place = 0; length = n }
+
+-- What writing promises: the promise of the cuts that were handed in and of the output before and after, with the paper's answer as a plain
+-- struct.
+pub record WrittenPlainly (report handed before after : List ℕ) (answer : KyrrWritten) : Type 0 where
   pub paper : Answer ℕ
-  pub promised : PackPromised report before after paper
-  pub is : answer ≡ plainPacked paper
+  pub promised : WritePromised report handed before after paper
+  pub is : answer ≡ plainWritten paper

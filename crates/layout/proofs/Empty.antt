@@ -5,17 +5,15 @@ use Prim.Native.Nat.{ℕ}
 use native.Mathlib.Omega.{arith}
 use Rattle.cuts.specs.Cuts.{Yields}
 use Rattle.layout.specs.Written.{written, Valid}
-use Rattle.layout.specs.Packed.{PackedIs}
+use Rattle.layout.specs.Packed.{ShortestCuts, PackedIs}
 use Rattle.layout.proofs.ReadsBack.{empty-reads}
 use Rattle.layout.proofs.Unique.{unique}
 
--- The packed report of no observations is the empty text.
-pub empty : PackedIs [] []
+-- No observations have no cuts.
+pub empty-cuts : ShortestCuts [] []
 unfolding written
-empty = record {
-  cuts = [];
+empty-cuts = record {
   valid = tt;
-  is = refl;
   reads = empty-reads;
   least = λ other h. omega arith;
   last = λ others v e. last others v;
@@ -24,6 +22,11 @@ empty = record {
     last : (others : List ℕ) → Valid others [] → Yields others []
     last [] v = tt
     last (k ∷ ks) v = absurd v
+
+-- Their packed report is the empty text.
+pub empty : PackedIs [] []
+unfolding written
+empty = record { cuts = []; shortest = empty-cuts; is = refl }
 
 -- And no other text is.
 pub empty-only : (text : List ℕ) → PackedIs [] text → text ≡ []

@@ -1,5 +1,5 @@
--- What the search for the cuts promises is the promise of packing: the observations of an accepted report, written by the wanted cuts of
--- their sets and sizes, are its packed report.
+-- What the search for the cuts promises is the promise of packing: the wanted cuts of the observations of an accepted report, by their sets
+-- and sizes, are those of its packed report.
 use Prim.Native.Nat.{ℕ, _≤_}
 use mathlib.Core.Path.{_≡_, refl, ap, sym, _∙_}
 use mathlib.Core.List.{List, [], _∷_, map}
@@ -9,9 +9,11 @@ use Rattle.element.specs.Observation.{Observation, setOf}
 use Rattle.report.specs.Report.{accepted, read}
 use Rattle.cuts.specs.Cuts.{sameMark, Cuts, Wanted}
 use Rattle.cuts.specs.Plan.{Marked, markedRows, markedBytes}
+use Rattle.cuts.specs.Cheapest.{chosen}
+use Rattle.cuts.proofs.CheapestLaws.{chosen-wanted}
 use Rattle.cuts.proofs.CutLaws.{cuts-to, cuts-from, stretch-map}
 use Rattle.layout.specs.Written.{markOf, mayFollow, written, Valid}
-use Rattle.layout.specs.Packed.{PackedIs}
+use Rattle.layout.specs.Packed.{ShortestCuts}
 use Rattle.layout.specs.Cost.{sizeOf, asMarked}
 use Rattle.layout.proofs.Accepted.{AllRight, accepted-right}
 use Rattle.layout.proofs.ReadsBack.{reads-back-shorter}
@@ -39,10 +41,10 @@ valid-rows cuts L v = cuts-to asMarked together mayFollow may-follow cuts L v
 pub rows-valid : (cuts : List ℕ) (L : List Observation) → Cuts together cuts (map asMarked L) → Valid cuts L
 rows-valid cuts L v = cuts-from asMarked together mayFollow may-follow cuts L v
 
--- The wanted cuts write the packed report.
-pub packed : (t : List ℕ) (L : List Observation) (cuts : List ℕ) → read t ≡ accepted L → Wanted markedBytes together (map asMarked L) cuts
-    → PackedIs L (written cuts L)
-packed t L cuts h w =
+-- The wanted cuts are those of the packed report.
+pub shortest : (t : List ℕ) (L : List Observation) (cuts : List ℕ) → read t ≡ accepted L → Wanted markedBytes together (map asMarked L) cuts
+    → ShortestCuts L cuts
+shortest t L cuts h w =
     let r : AllRight L = accepted-right t L h in
     let v : Valid cuts L = rows-valid cuts L (w .cuts) in
     let n = written-bytes cuts L v r in
@@ -50,10 +52,12 @@ packed t L cuts h w =
     let c : Cutting L (length other) = no-shorter other L g in
     omega (arith, c .within, written-bytes (c .cuts) L (c .valid) r, w .least (c .cuts) (valid-rows (c .cuts) L (c .valid))) in
     record {
-      cuts = cuts;
       valid = v;
-      is = refl;
       reads = reads-back-shorter t L cuts h v (shortest t h);
       least = shortest;
       last = λ others u e. w .last others (valid-rows others L u) (sym (written-bytes others L u r) ∙ (e ∙ n));
     }
+
+-- Every accepted report has them.
+pub has-cuts : (t : List ℕ) (L : List Observation) → read t ≡ accepted L → ShortestCuts L (chosen markedBytes together (map asMarked L))
+has-cuts t L h = shortest t L _ h (chosen-wanted markedBytes together (map asMarked L))

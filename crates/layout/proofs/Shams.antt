@@ -19,6 +19,7 @@ use Rattle.report.proofs.Computed.{reading}
 use Rattle.report.proofs.Join.{refused≢accepted}
 use Rattle.layout.proofs.Computed.{writing}
 use Rattle.layout.proofs.ReadsBack.{empty-reads}
+use Rattle.layout.proofs.Unique.{packed-reads, packed-least}
 use Rattle.layout.proofs.SpecimenPacks.{specimen-reads}
 
 -- An accepted report where what the sham writes is not the packed report.
@@ -56,7 +57,7 @@ specimen-always = record {
   report = another;
   observations = anotherObservation ∷ [];
   reads = another-reads;
-  fails = λ p. let q : accepted (specimenObservation ∷ []) ≡ accepted (anotherObservation ∷ []) = sym specimen-reads ∙ p .reads in
+  fails = λ p. let q : accepted (specimenObservation ∷ []) ≡ accepted (anotherObservation ∷ []) = sym specimen-reads ∙ packed-reads p in
       let z : _≡_ {A = ℕ} 49 50 = cc in omega arith;
 }
 
@@ -71,7 +72,7 @@ nothing-written = record {
   report = specimen;
   observations = specimenObservation ∷ [];
   reads = specimen-reads;
-  fails = λ p. let q : accepted [] ≡ accepted (specimenObservation ∷ []) = sym empty-reads ∙ p .reads in let z : _≡_ {A = ℕ} 0 1 = cc in omega arith;
+  fails = λ p. let q : accepted [] ≡ accepted (specimenObservation ∷ []) = sym empty-reads ∙ packed-reads p in let z : _≡_ {A = ℕ} 0 1 = cc in omega arith;
 }
 
 -- Copies its input.
@@ -93,7 +94,7 @@ input-copied = record {
   report = padded;
   observations = specimenObservation ∷ [];
   reads = padded-reads;
-  fails = λ p. let b : 105 ≤ 104 = p .least specimen specimen-reads in omega arith;
+  fails = λ p. let b : 105 ≤ 104 = packed-least p specimen specimen-reads in omega arith;
 }
 
 -- The bytes of lines.
@@ -172,7 +173,7 @@ copied-under = record {
   report = turned;
   observations = turnedRows;
   reads = turned-reads;
-  fails = λ p. let z : _≡_ {A = ℕ} 50 49 = ap byteOfRa (sym under-reads ∙ p .reads) in omega arith;
+  fails = λ p. let z : _≡_ {A = ℕ} 50 49 = ap byteOfRa (sym under-reads ∙ packed-reads p) in omega arith;
 }
 
 -- Lays out the first block well and copies the remaining rows in blocks as they came.
@@ -205,7 +206,7 @@ copied-blocks = record {
   report = parted;
   observations = specimenObservation ∷ anotherObservation ∷ [];
   reads = parted-reads;
-  fails = λ p. let b : 208 ≤ 155 = rw blocks-are at (p .least joined joined-reads) in omega arith;
+  fails = λ p. let b : 208 ≤ 155 = rw blocks-are at (packed-least p joined joined-reads) in omega arith;
 }
 
 -- Joins kinds: puts every row into one block.
@@ -244,5 +245,5 @@ kinds-joined = record {
   report = bothKinds;
   observations = specimenObservation ∷ radarObservation ∷ [];
   reads = kinds-read;
-  fails = λ p. refused≢accepted (sym joined-refused ∙ p .reads);
+  fails = λ p. refused≢accepted (sym joined-refused ∙ packed-reads p);
 }

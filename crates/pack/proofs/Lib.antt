@@ -1,5 +1,6 @@
--- The promise settles the answer and the output, and shuts out the shams.
+-- The promises settle the answers, the list and the output, hold together as a pair, and shut out the shams.
 pub mod Unique
+pub mod Pair
 pub mod Settled
 pub mod Shams
 -- Writing into the rest of the lent output.

@@ -29,7 +29,7 @@ use Rattle.layout.specs.Cost.{sizeOf, asMarked}
 use Rattle.layout.proofs.Accepted.{Right, AllRight, accepted-right, accepted-rows}
 use Rattle.layout.proofs.NoShorter.{Cutting, no-shorter}
 use Rattle.layout.proofs.BlockBytes.{written-bytes}
-use Rattle.layout.proofs.Packed.{rows-are, together, valid-rows, rows-valid, packed}
+use Rattle.layout.proofs.Packed.{rows-are, together, valid-rows, rows-valid, shortest}
 use Rattle.pack.specs.Inner.{observationsOf, observed, Indexed, SizesAre, markIn, RowsCut, RoomFor, CutIs, PlannedIs}
 use Rattle.pack.specs.declared.plan.Planned.the-variants as Planned′
 use Rattle.pack.proofs.BlockLaws.{rows-sets}
@@ -175,8 +175,7 @@ module _ {report : List ℕ} {index : Index} (is : read report ≡ accepted (obs
         is = is;
         indexed = x;
         within = p .within;
-        valid = v;
-        packed = packed report (observed report) (take (plan .blocks) after) is (p .wanted);
+        shortest = shortest report (observed report) (take (plan .blocks) after) is (p .wanted);
         bytes-are = p .bytes ∙ sym (written-bytes (take (plan .blocks) after) (observed report) v (accepted-right report (observed report) is));
       }
 

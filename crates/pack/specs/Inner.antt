@@ -6,16 +6,19 @@ use mathlib.Core.List.{List, [], _∷_, _++_, map}
 use lib.Dec.{eqb, leb, ltb}
 use lib.ListN.{length, take, drop, getD}
 use Rattle.text.specs.Lines.{lineFeed, bar}
-use Rattle.text.specs.Output.{over}
+use Rattle.text.specs.Output.{over, putOver}
+use Rattle.refusal.specs.Paper.{paper, Answer, refusedBy, given}
+use Rattle.refusal.specs.declared.Kind.the-variants.{OutputTooShort, CutsDiffer}
 use Rattle.element.specs.Set.{has}
 use Rattle.element.specs.Table.{elements, columnOrder}
 use Rattle.element.specs.Observation.{Observation, bit, isRadarSet}
 use Rattle.report.specs.Report.{Outcome, accepted, refused, read}
+use Rattle.report.specs.Answers.{request}
 use Rattle.report.specs.Starts.{startsIn}
 use Rattle.report.specs.Index.{Index, Noted, notedBytes}
 use Rattle.cuts.specs.Plan.{ShortestPromised}
 use Rattle.cuts.specs.declared.Plan.{Plan}
-use Rattle.layout.specs.Packed.{PackedIs}
+use Rattle.layout.specs.Packed.{ShortestCuts}
 use Rattle.layout.specs.Written.{passing, lineOf, valuesAt, dataLines, blockText, written, Valid}
 use Rattle.pack.specs.declared.plan.Planned.{Planned}
 use Rattle.pack.specs.declared.plan.Planned.the-variants as Planned
@@ -140,13 +143,12 @@ pub record RoomFor (rows : ℕ) (index : Index) (sizes marks cuts : List ℕ) : 
   pub marks-room : rows ≤ length marks
   pub cuts-room : rows ≤ length cuts
 
--- The first of the cuts write the packed report, which has so many bytes, and the index notes the report.
+-- The first of the cuts are those of the packed report, which has so many bytes, and the index notes the report.
 pub record CutIs (report : List ℕ) (index : Index) (cuts : List ℕ) (plan : Plan) : Type 0 where
   pub is : read report ≡ accepted (observed report)
   pub indexed : Indexed report index
   pub within : plan .blocks ≤ length cuts
-  pub valid : Valid (take (plan .blocks) cuts) (observed report)
-  pub packed : PackedIs (observed report) (written (take (plan .blocks) cuts) (observed report))
+  pub shortest : ShortestCuts (observed report) (take (plan .blocks) cuts)
   pub bytes-are : plan .bytes ≡ length (written (take (plan .blocks) cuts) (observed report))
 
 -- By what planning answers.
@@ -157,6 +159,18 @@ PlannedCase report index cuts (Planned.Refused refusal) = read report ≡ refuse
 -- What planning promises: the cuts of the packed report, or the report's refusal.
 pub record PlannedIs (report : List ℕ) (index : Index) (cuts : List ℕ) (answer : Planned) : Type 0 where
   pub case : PlannedCase report index cuts answer
+
+-- ---- the answers
+
+-- The length and the number of blocks of a plan are given, and its cuts are put over the start of the lent list.
+pub record Given (found : List ℕ) (plan : Plan) (before after : List ℕ) (answer : Answer (ℕ × ℕ)) : Type 0 where
+  pub answer-is : answer ≡ given (plan .bytes, plan .blocks)
+  pub list-is : after ≡ putOver (take (plan .blocks) found) before
+
+-- What writing so many bytes into an output of so many answers, where the cuts are right or not.
+abbrev pub roomAnswer : Bool → ℕ → ℕ → Answer ℕ
+roomAnswer right n room =
+    cond right (cond (leb n room) (given n) (refusedBy (paper (request OutputTooShort)))) (refusedBy (paper (request CutsDiffer)))
 
 -- ---- short reports
 

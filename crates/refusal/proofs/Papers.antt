@@ -8,12 +8,12 @@ use Rattle.refusal.specs.Paper.{reasons, Paper, paper}
 use Rattle.refusal.specs.declared.Kind.{Kind}
 use Rattle.refusal.specs.declared.Kind.the-variants.{TextTooLong, NoLineEnd, WrongByte, VersionExpected, BlockUnfinished, UnknownColumn, ColumnTwice, TooWide, WrongForm}
 use Rattle.refusal.specs.declared.Kind.the-variants.{OutOfRange, ElementMissing, GroupIncomplete, CentreNotEarth, TooManyRows, OutputTooShort, NoObservation, NoElement, FieldCountDiffers}
-use Rattle.refusal.specs.declared.Kind.the-variants.{ListTooShort, BadRecord, KindsMixed, ElementForeign, NotOptical}
+use Rattle.refusal.specs.declared.Kind.the-variants.{ListTooShort, BadRecord, KindsMixed, ElementForeign, NotOptical, CutsDiffer}
 use Rattle.refusal.specs.declared.Refusal.{Refusal}
 
--- The table's reasons are numbered from 1 to 23.
+-- The table's reasons are numbered from 1 to 24.
 pub table-numbers : map numberOf reasons
-    ≡ 1 ∷ 2 ∷ 3 ∷ 4 ∷ 5 ∷ 6 ∷ 7 ∷ 8 ∷ 9 ∷ 10 ∷ 11 ∷ 12 ∷ 13 ∷ 14 ∷ 15 ∷ 16 ∷ 17 ∷ 18 ∷ 19 ∷ 20 ∷ 21 ∷ 22 ∷ 23 ∷ []
+    ≡ 1 ∷ 2 ∷ 3 ∷ 4 ∷ 5 ∷ 6 ∷ 7 ∷ 8 ∷ 9 ∷ 10 ∷ 11 ∷ 12 ∷ 13 ∷ 14 ∷ 15 ∷ 16 ∷ 17 ∷ 18 ∷ 19 ∷ 20 ∷ 21 ∷ 22 ∷ 23 ∷ 24 ∷ []
 table-numbers = refl
 
 -- The reason of a number.
@@ -45,6 +45,7 @@ kind-of-number BadRecord = refl
 kind-of-number KindsMixed = refl
 kind-of-number ElementForeign = refl
 kind-of-number NotOptical = refl
+kind-of-number CutsDiffer = refl
 
 -- The refusal of a number, a line and a place.
 abbrev pub refusalOf : Paper → Refusal

@@ -1,7 +1,7 @@
 -- The paper's number of each kind of refusal.
 use Prim.Native.Nat.{ℕ}
 use Rattle.refusal.specs.declared.Kind.{Kind}
-use Rattle.refusal.specs.declared.Kind.the-variants.{TextTooLong, NoLineEnd, WrongByte, VersionExpected, BlockUnfinished, UnknownColumn, ColumnTwice, TooWide, WrongForm, OutOfRange, ElementMissing, GroupIncomplete, CentreNotEarth, TooManyRows, OutputTooShort, NoObservation, NoElement, FieldCountDiffers, ListTooShort, BadRecord, KindsMixed, ElementForeign, NotOptical}
+use Rattle.refusal.specs.declared.Kind.the-variants.{TextTooLong, NoLineEnd, WrongByte, VersionExpected, BlockUnfinished, UnknownColumn, ColumnTwice, TooWide, WrongForm, OutOfRange, ElementMissing, GroupIncomplete, CentreNotEarth, TooManyRows, OutputTooShort, NoObservation, NoElement, FieldCountDiffers, ListTooShort, BadRecord, KindsMixed, ElementForeign, NotOptical, CutsDiffer}
 
 -- The refusal's number in document 01, and in document 02 from 19 on.
 abbrev pub numberOf : Kind → ℕ
@@ -28,3 +28,4 @@ numberOf BadRecord = 20
 numberOf KindsMixed = 21
 numberOf ElementForeign = 22
 numberOf NotOptical = 23
+numberOf CutsDiffer = 24

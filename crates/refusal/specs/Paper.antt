@@ -3,7 +3,7 @@ use Prim.Native.Nat.{ℕ}
 use mathlib.Core.List.{List, [], _∷_}
 use Rattle.refusal.specs.Number.{numberOf}
 use Rattle.refusal.specs.declared.Kind.{Kind}
-use Rattle.refusal.specs.declared.Kind.the-variants.{TextTooLong, NoLineEnd, WrongByte, VersionExpected, BlockUnfinished, UnknownColumn, ColumnTwice, TooWide, WrongForm, OutOfRange, ElementMissing, GroupIncomplete, CentreNotEarth, TooManyRows, OutputTooShort, NoObservation, NoElement, FieldCountDiffers, ListTooShort, BadRecord, KindsMixed, ElementForeign, NotOptical}
+use Rattle.refusal.specs.declared.Kind.the-variants.{TextTooLong, NoLineEnd, WrongByte, VersionExpected, BlockUnfinished, UnknownColumn, ColumnTwice, TooWide, WrongForm, OutOfRange, ElementMissing, GroupIncomplete, CentreNotEarth, TooManyRows, OutputTooShort, NoObservation, NoElement, FieldCountDiffers, ListTooShort, BadRecord, KindsMixed, ElementForeign, NotOptical, CutsDiffer}
 use Rattle.refusal.specs.declared.Refusal.{Refusal}
 
 -- The reasons of the paper's table, the first to the last.
@@ -11,7 +11,7 @@ abbrev pub reasons : List Kind
 reasons =
     TextTooLong ∷ NoLineEnd ∷ WrongByte ∷ VersionExpected ∷ BlockUnfinished ∷ UnknownColumn ∷ ColumnTwice ∷ TooWide ∷ WrongForm ∷ OutOfRange
     ∷ ElementMissing ∷ GroupIncomplete ∷ CentreNotEarth ∷ TooManyRows ∷ OutputTooShort ∷ NoObservation ∷ NoElement ∷ FieldCountDiffers
-    ∷ ListTooShort ∷ BadRecord ∷ KindsMixed ∷ ElementForeign ∷ NotOptical ∷ []
+    ∷ ListTooShort ∷ BadRecord ∷ KindsMixed ∷ ElementForeign ∷ NotOptical ∷ CutsDiffer ∷ []
 
 -- The paper's number of a refusal, its line and its place.
 pub record Paper : Type 0 where

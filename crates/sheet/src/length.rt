@@ -18,7 +18,7 @@ pub(crate) fn print_length(report: &[u8], packed: &[u8]) {
     print::bytes(
         b"   Proved of every report: its packed report has the bytes of that sum, `written-bytes`\n\
           \x20  (crates/layout/proofs/BlockBytes.antt), and no report of the same observations is shorter,\n\
-          \x20  `least` of `PackedIs`.\n",
+          \x20  `least` of `ShortestCuts`.\n",
     );
 }
 

@@ -6,9 +6,12 @@ mod sameness;
 pub mod sources;
 
 use explain::refusals;
-use pack::Packed;
+use pack::Measured;
+use pack::Written;
 use refusal::Refusal;
+use report::ROW_LIMIT;
 use report::TEXT_LIMIT;
+use text::list;
 use text::part::front;
 use words::print;
 
@@ -54,8 +57,16 @@ fn print_proof_of_check() {
 
 // Prints the answers about the packed report of a report, the first after a question; nothing for a refused one.
 pub fn print_packing(report: &[u8], question: &[u8]) {
+    let mut cuts = [0u16; ROW_LIMIT];
+    if let Measured::Shortest(_, blocks) = pack::measure(report, &mut cuts) {
+        print_packed(report, list::front(&cuts, blocks), question);
+    }
+}
+
+// Prints the answers about the packed report that is written of a report by its cuts, the first after a question.
+fn print_packed(report: &[u8], cuts: &[u16], question: &[u8]) {
     let mut output = [0u8; TEXT_LIMIT];
-    if let Packed::Length(length) = pack::pack(report, &mut output) {
+    if let Written::Length(length) = pack::write(report, cuts, &mut output) {
         let packed = front(&output, length);
         print::bytes(question);
         sameness::print_same(report, packed);

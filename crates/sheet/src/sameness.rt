@@ -14,7 +14,7 @@ pub(crate) fn print_same(report: &[u8], packed: &[u8]) {
         _ => print::bytes(b"No.\n"),
     }
     print::bytes(
-        b"   Proved of every report: `reads` of `PackedIs` (crates/layout/specs/Packed.antt),\n\
-          \x20  which `pack` promises (crates/pack/specs/Promise.antt).\n",
+        b"   Proved of every report: `reads` of `ShortestCuts` (crates/layout/specs/Packed.antt),\n\
+          \x20  which `write` promises (crates/pack/specs/Promise.antt).\n",
     );
 }

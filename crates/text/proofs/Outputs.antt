@@ -62,6 +62,34 @@ copied xs d e n h en ee =
     let p = put-room xs d h in
     (en ∙ sym (p .0), ee ∙ ap (λ (l : List ℕ). l ++ drop (length xs) d) (take-length xs) ∙ sym (p .1))
 
+-- Numbers are being put over the start of a list, and the loop stands at i: those before i are there.
+pub record Putting (numbers list₀ list : List ℕ) (i : ℕ) : Type 0 where
+  pub within : i ≤ length numbers
+  pub sized : length list ≡ length list₀
+  pub written : list ≡ over (take i numbers) list₀
+
+module _ (numbers list₀ : List ℕ) where
+  pub putting-start : Putting numbers list₀ list₀ 0
+  unfolding over
+  putting-start = record { within = omega arith; sized = refl; written = refl }
+
+  module _ (list : List ℕ) (i : ℕ) (v : Putting numbers list₀ list i) (room : length numbers ≤ length list₀) where
+    -- One number more.
+    pub putting-on : i < length numbers → Putting numbers list₀ (set list i (getD numbers i 0)) (i + 1)
+    putting-on h = record {
+      within = omega arith;
+      sized = length-set list i (getD numbers i 0) ∙ v .sized;
+      written =
+          ap (λ (l : List ℕ). set l i (getD numbers i 0)) (v .written)
+          ∙ over-set (take i numbers) list₀ (getD numbers i 0) i (omega (arith, length-take i numbers)) (omega arith)
+          ∙ ap (λ (l : List ℕ). over l list₀) (rw (add-one, take-suc numbers i 0 h));
+    }
+
+    -- All are there.
+    pub putting-end : length numbers ≤ i → list ≡ putOver numbers list₀
+    putting-end h =
+        v .written ∙ ap (λ (l : List ℕ). over l list₀) (take-all i numbers h) ∙ sym (put-room numbers list₀ room .1)
+
 -- A number has as many first bytes as are asked for.
 pub low-count : (count number : ℕ) → length (lowBytes count number) ≡ count
 unfolding lowBytes

@@ -1,11 +1,12 @@
 // Runs the stored cases of the file `cases` and prints their answers.
 // A case is a header of 60 bytes and two texts. The header is a letter, a blank, two numbers of 20 digits with a blank after each,
 // the lengths of the two texts in 7 digits with a blank between, and LF.
+mod packing;
+
 use night::answer::Listed;
 use night::answer::Record;
 use night::answer::Recorded;
 use night::answer::Written;
-use pack::Packed;
 use report::answer::Showing;
 use text::part::at;
 use text::part::front;
@@ -20,9 +21,6 @@ const HEADER: usize = 60;
 
 // The most bytes that a text has.
 const LONGEST_TEXT: usize = 70000;
-
-// The most bytes that an output is lent with, and some past them.
-const LARGEST_OUTPUT: usize = 70064;
 
 // More cases than there are.
 const MOST_CASES: usize = 1000000;
@@ -79,7 +77,9 @@ fn run_case(file: i32, header: &[u8], text: &[u8]) {
     let length = read_text(file, number_at(header, 52, 7), &mut space);
     let letter = at(header, 0);
     let first = number_at(header, 2, 20);
-    answer(letter, first, number_at(header, 23, 20), text);
+    let second = number_at(header, 23, 20);
+    answer(letter, first, second, text);
+    packing::answer(letter, first, second, text, front(&space, length));
     answer_list(letter, first, text, &mut space[..length]);
 }
 
@@ -92,7 +92,7 @@ fn number_at(header: &[u8], from: usize, digits: usize) -> usize {
     }
 }
 
-// Prints the answer of a case about a report: C check, S show, V value, P pack.
+// Prints the answer of a case about a report: C check, S show, V value.
 fn answer(letter: u8, first: usize, second: usize, report: &[u8]) {
     if letter == b'C' {
         print::check_line(report::check(report));
@@ -102,10 +102,6 @@ fn answer(letter: u8, first: usize, second: usize, report: &[u8]) {
     }
     if letter == b'V' {
         print::value_line(report::value(report, first, second));
-    }
-    if letter == b'P' {
-        let mut output = [0u8; LARGEST_OUTPUT];
-        pack_case(report, first, (second % 256) as u8, &mut output);
     }
 }
 
@@ -175,58 +171,4 @@ fn show(report: &[u8], observation: usize, element: usize) {
         Showing::Absent => print::bytes(b"absent\n"),
         Showing::Refused(refusal) => print::refusal_line(refusal),
     }
-}
-
-// Packs a report into so many bytes of an output that is filled with a byte. Prints the answer, the packed report and whether every other byte
-// of the output stayed.
-fn pack_case(report: &[u8], room: usize, filling: u8, output: &mut [u8]) {
-    fill(output, filling);
-    let length = pack_into(report, room, output);
-    print::bytes(front(output, length));
-    if is_filled(tail(output, length), filling) {
-        print::bytes(b"rest kept\n");
-    } else {
-        print::bytes(b"rest changed\n");
-    }
-}
-
-// Packs a report into so many bytes of an output and prints the answer; the length of the packed report, or 0.
-fn pack_into(report: &[u8], room: usize, output: &mut [u8]) -> usize {
-    if output.len() < room {
-        return 0;
-    }
-    match pack::pack(report, &mut output[..room]) {
-        Packed::Length(length) => {
-            print::bytes(b"packed ");
-            print::number(length as u64);
-            print::line_end();
-            length
-        }
-        Packed::Refused(refusal) => {
-            print::refusal_line(refusal);
-            0
-        }
-    }
-}
-
-// Fills an output with a byte.
-fn fill(output: &mut [u8], filling: u8) {
-    let mut i: usize = 0;
-    while i < output.len() {
-        output[i] = filling;
-        i += 1;
-    }
-}
-
-// Whether a text is filled with a byte.
-fn is_filled(text: &[u8], filling: u8) -> bool {
-    let mut i: usize = 0;
-    while i < text.len() {
-        if text[i] == filling {
-            i += 1;
-        } else {
-            return false;
-        }
-    }
-    true
 }

@@ -27,6 +27,11 @@ pub fn between(before: &[u8], n: u64, after: &[u8]) {
     bytes(after);
 }
 
+// Prints a number of 16 bits between words.
+pub fn short_between(before: &[u8], n: u16, after: &[u8]) {
+    between(before, n as u64, after);
+}
+
 // Prints a number with zeros before it where it has fewer digits than that.
 pub fn padded(n: u64, digits: usize) {
     let mut space = [0u8; 20];
@@ -98,7 +103,7 @@ pub fn line_end() {
 
 // Prints the box's name and version.
 pub fn version() {
-    bytes(b"kyrrbolda 1.5");
+    bytes(b"kyrrbolda 1.6");
 }
 
 // Prints `accepted N`, or the refusal.

@@ -25,6 +25,15 @@ number-at-requires-3 c κs = search needs
 answer-requires : tie.Need-answer-requires
 answer-requires c κs = search needs
 
+slice-aggregate-front : tie.Need-slice-aggregate-front
+slice-aggregate-front c = search needs
+
+front-requires : tie.Need-front-requires
+front-requires c κs = search needs
+
+answer-requires-2 : tie.Need-answer-requires-2
+answer-requires-2 c κs = search needs
+
 array-borrow-prefix-space : tie.Need-array-borrow-prefix-space
 array-borrow-prefix-space c = search needs
 
@@ -48,6 +57,9 @@ run-case-spec =
     number-at-requires-2
     number-at-requires-3
     answer-requires
+    slice-aggregate-front
+    front-requires
+    answer-requires-2
     array-borrow-prefix-space
     slice-aggregate-answer-list
     answer-list-requires

@@ -1,24 +1,24 @@
 -- `answers::packed::print_rows` never traps, and ends.
-use Prim.Native.Nat.{_-_, _≤_}
+use Prim.Native.Nat.{_-_}
 use lib.ListN.{length}
 use borrow.Author.Needs.{needs}
 use Rattle.answers.proofs.packed.print_rows.Statement.{statement}
 use Rattle.answers.proofs.packed.print_rows.Tie as tie
 
 abbrev Inv-loop : tie.InvT-loop
-Inv-loop rows k₀ t4 t5 t6 t7 k = k ≤ length rows
+Inv-loop cuts k₀ t4 t5 t6 t7 k = Unit {0}
 
 abbrev μ-loop : tie.MeasureT-loop
-μ-loop rows k₀ t4 t5 t6 t7 k = length rows - k
+μ-loop cuts k₀ t4 t5 t6 t7 k = length cuts - k
 
 loop-holds : tie.Need-loop-holds Inv-loop μ-loop
 loop-holds c = search needs
 
-mul-count : tie.Need-mul-count Inv-loop μ-loop
-mul-count c = search needs
+mul-rows : tie.Need-mul-rows Inv-loop μ-loop
+mul-rows c = search needs
 
-shared-slice-read-count : tie.Need-shared-slice-read-count Inv-loop μ-loop
-shared-slice-read-count c = search needs
+shared-slice-read-rows : tie.Need-shared-slice-read-rows Inv-loop μ-loop
+shared-slice-read-rows c = search needs
 
 add-k : tie.Need-add-k Inv-loop μ-loop
 add-k c = search needs
@@ -32,14 +32,14 @@ slice-aggregate-between-2 c = search needs
 between-requires : tie.Need-between-requires Inv-loop μ-loop
 between-requires c κs = search needs
 
-slice-aggregate-between-3 : tie.Need-slice-aggregate-between-3 Inv-loop μ-loop
-slice-aggregate-between-3 c = search needs
+slice-aggregate-short-between : tie.Need-slice-aggregate-short-between Inv-loop μ-loop
+slice-aggregate-short-between c = search needs
 
-slice-aggregate-between-4 : tie.Need-slice-aggregate-between-4 Inv-loop μ-loop
-slice-aggregate-between-4 c = search needs
+slice-aggregate-short-between-2 : tie.Need-slice-aggregate-short-between-2 Inv-loop μ-loop
+slice-aggregate-short-between-2 c = search needs
 
-between-requires-2 : tie.Need-between-requires-2 Inv-loop μ-loop
-between-requires-2 c κs = search needs
+short-between-requires : tie.Need-short-between-requires Inv-loop μ-loop
+short-between-requires c κs = search needs
 
 loop-less : tie.Need-loop-less Inv-loop μ-loop
 loop-less c = search needs
@@ -57,15 +57,15 @@ print-rows-spec =
     Inv-loop
     μ-loop
     loop-holds
-    mul-count
-    shared-slice-read-count
+    mul-rows
+    shared-slice-read-rows
     add-k
     slice-aggregate-between
     slice-aggregate-between-2
     between-requires
-    slice-aggregate-between-3
-    slice-aggregate-between-4
-    between-requires-2
+    slice-aggregate-short-between
+    slice-aggregate-short-between-2
+    short-between-requires
     loop-less
     loop-again
     returns)
