@@ -2,10 +2,9 @@
 -- the output is shorter than the length that the first gave, and never 24. Handed any other cuts it answers 24.
 use Prim.Native.Nat.{ℕ, zero, suc, _≤_, _<_}
 use mathlib.Core.Path.{_≡_, refl, sym, ap, _∙_}
-use mathlib.Core.Bool.{Bool, true, false}
+use mathlib.Core.Bool.{true}
 use mathlib.Core.List.{List, [], _∷_}
 use native.Mathlib.Omega.{arith}
-use lib.Dec.{leb}
 use lib.ListN.{length, take, drop, length-drop}
 use lib.Seq.{take-at}
 use borrow.Author.Tests.{leb-false, lt-leb}
@@ -23,7 +22,8 @@ use Rattle.layout.specs.Packed.{ShortestCuts}
 use Rattle.layout.specs.Written.{written, Valid}
 use Rattle.layout.proofs.Accepted.{accepted-rows}
 use Rattle.layout.proofs.Unique.{cuts-unique}
-use Rattle.pack.specs.Promise.{MeasureCase, MeasurePromised, packedAnswer, writtenAnswer, writtenOver, WrittenAs, WritePromised, PackedInto}
+use Rattle.pack.specs.Promise.{MeasureCase, MeasurePromised, writtenAnswer, writtenOver, WrittenAs, WritePromised, PackedInto}
+use Rattle.pack.proofs.Unique.{refused≢given}
 
 -- What the first call gave: the length and the number of cuts of a packed report, and these cuts.
 record Gave (outcome : Outcome) (before after : List ℕ) (n blocks : ℕ) : Type 0 where
@@ -35,6 +35,7 @@ record Gave (outcome : Outcome) (before after : List ℕ) (n blocks : ℕ) : Typ
   pub many : length cuts ≡ blocks
   pub list-is : after ≡ putOver cuts before
 
+-- That follows from its promise, where it gave a length.
 gave : (outcome : Outcome) {before after : List ℕ} {n blocks : ℕ} → MeasureCase outcome before after (given (n, blocks)) → Gave outcome before after n blocks
 gave (accepted L) {n = n} {blocks = blocks} p =
     let e : _≡_ {A = ℕ × ℕ} (n, blocks) (length (written (p .cuts) L), length (p .cuts)) = cc in
@@ -47,7 +48,7 @@ gave (accepted L) {n = n} {blocks = blocks} p =
       many = sym (ap (λ (pair : ℕ × ℕ). pair .1) e);
       list-is = p .list-is;
     }
-gave (refused x) p = absurd (let e = p .answer-is in let z : _≡_ {A = ℕ} 0 1 = cc in omega arith)
+gave (refused x) {n = n} {blocks = blocks} p = absurd (refused≢given (paper x) (n, blocks) (sym (p .answer-is)))
 
 -- There are no more cuts than rows.
 cuts-few : (cuts : List ℕ) (L : List Observation) → Valid cuts L → length cuts ≤ length L
@@ -124,18 +125,14 @@ module _ {report : List ℕ} {n : ℕ} {before after : List ℕ} {answer : Answe
   pub only-short : answer ≡ refusedBy (paper (request OutputTooShort)) → length before < n
   only-short e =
       bools (hasRoom (p .text) before)
-      (λ b.
-      let g : _≡_ {A = Answer ℕ} (given (length (p .text))) (refusedBy (paper (request OutputTooShort))) = sym (rw b at (p .answer-is)) ∙ e in
-      absurd (let z : _≡_ {A = ℕ} 0 1 = cc in omega arith))
+      (λ b. absurd (refused≢given (paper (request OutputTooShort)) (length (p .text)) (sym e ∙ rw b at (p .answer-is))))
       (λ b. omega (arith, leb-false (length (p .text)) (length before) b, p .long))
 
   -- Never 24.
   pub never-differ : answer ≡ refusedBy (paper (request CutsDiffer)) → ⊥
   never-differ e =
       bools (hasRoom (p .text) before)
-      (λ b.
-      let g : _≡_ {A = Answer ℕ} (given (length (p .text))) (refusedBy (paper (request CutsDiffer))) = sym (rw b at (p .answer-is)) ∙ e in
-      absurd (let z : _≡_ {A = ℕ} 0 1 = cc in omega arith))
+      (λ b. absurd (refused≢given (paper (request CutsDiffer)) (length (p .text)) (sym e ∙ rw b at (p .answer-is))))
       (λ b.
       let g : _≡_ {A = Answer ℕ} (refusedBy (paper (request OutputTooShort))) (refusedBy (paper (request CutsDiffer))) = sym (rw b at (p .answer-is)) ∙ e in
       let k : paper (request OutputTooShort) ≡ paper (request CutsDiffer) = cc in

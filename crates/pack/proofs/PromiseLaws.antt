@@ -25,11 +25,9 @@ use Rattle.pack.specs.Promise.{MeasuredAs, MeasurePromised, writtenAnswe
 use Rattle.pack.specs.Inner.{observed, Wrote, BlocksAsk, CutIs, PlannedIs, Given, roomAnswer}
 use Rattle.pack.specs.declared.plan.Planned.{Planned}
 use Rattle.pack.specs.declared.plan.Planned.the-variants as Planned
+use Rattle.pack.proofs.Unique.{refused≢given}
 
 -- ---- by whether the cuts are right, and by the room
-
-refused≢given : (x : Paper) (n : ℕ) → _≡_ {A = Answer ℕ} (refusedBy x) (given n) → ⊥
-refused≢given x n e = absurd (let z : _≡_ {A = ℕ} 0 1 = cc in omega arith)
 
 -- The steps of `answer_of`.
 pub room-differ : (right : Bool) (n room : ℕ) → not right ≡ true → refusedBy (paper (request CutsDiffer)) ≡ roomAnswer right n room

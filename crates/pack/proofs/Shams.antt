@@ -25,6 +25,7 @@ use Rattle.layout.proofs.Packed.{together, has-cuts}
 use Rattle.layout.proofs.SpecimenPacks.{one-packs, specimen-reads}
 use Rattle.layout.proofs.Shams as Texts
 use Rattle.pack.specs.Promise.{packedAnswer, WritePromised}
+use Rattle.pack.proofs.Unique.{refused≢given}
 use Rattle.pack.proofs.Settled.{write-settled, specimen-written}
 
 -- A sham takes the report, the cuts and the output, and gives the output after and the answer.
@@ -61,7 +62,7 @@ same-text text other output h a e =
     (λ b.
     let l : _≡_ {A = Answer ℕ} (given (length text)) (refusedBy (paper (request OutputTooShort))) =
     rw (le-leb (length text) (length output) h, b) at a in
-    let z : _≡_ {A = ℕ} 0 1 = cc in absurd (omega arith))
+    absurd (refused≢given (paper (request OutputTooShort)) (length text) (sym l)))
 
 -- One whose text is not the packed report is caught at an output with room for the text.
 writer-caught : (text : List ℕ → List ℕ) → Texts.Caught text → Caught (writer text)

@@ -2,10 +2,11 @@
 use Prim.Native.Nat.{ℕ}
 use mathlib.Core.Path.{_≡_, refl, sym, ap, _∙_}
 use mathlib.Core.List.{List}
+use native.Mathlib.Omega.{arith}
 use lib.ListN.{length}
 use Rattle.text.specs.Output.{putOver}
 use Rattle.text.specs.Part.{same}
-use Rattle.refusal.specs.Paper.{Answer, refusedBy, absent, given}
+use Rattle.refusal.specs.Paper.{Paper, Answer, refusedBy, absent, given}
 use Rattle.refusal.proofs.Papers.{refusalOf, refusal-of-paper}
 use Rattle.report.specs.Report.{Outcome, accepted, refused, read}
 use Rattle.layout.specs.Written.{written}
@@ -16,6 +17,10 @@ use Rattle.pack.specs.declared.Measured.{Measured}
 use Rattle.pack.specs.declared.Measured.the-variants as Measured
 use Rattle.pack.specs.declared.Written.{Written}
 use Rattle.pack.specs.declared.Written.the-variants as Written
+
+-- A refusal is no length.
+pub refused≢given : {A : Type 0} (x : Paper) (a : A) → refusedBy x ≡ given a → ⊥
+refused≢given x a e = absurd (let z : _≡_ {A = ℕ} 0 1 = cc in omega arith)
 
 -- ---- the length
 
