@@ -48,13 +48,13 @@ shortest t L cuts h w =
     let r : AllRight L = accepted-right t L h in
     let v : Valid cuts L = rows-valid cuts L (w .cuts) in
     let n = written-bytes cuts L v r in
-    let shortest : (other : List ℕ) → read other ≡ accepted L → length (written cuts L) ≤ length other = λ other g.
+    let least : (other : List ℕ) → read other ≡ accepted L → length (written cuts L) ≤ length other = λ other g.
     let c : Cutting L (length other) = no-shorter other L g in
     omega (arith, c .within, written-bytes (c .cuts) L (c .valid) r, w .least (c .cuts) (valid-rows (c .cuts) L (c .valid))) in
     record {
       valid = v;
-      reads = reads-back-shorter t L cuts h v (shortest t h);
-      least = shortest;
+      reads = reads-back-shorter t L cuts h v (least t h);
+      least = least;
       last = λ others u e. w .last others (valid-rows others L u) (sym (written-bytes others L u r) ∙ (e ∙ n));
     }
 

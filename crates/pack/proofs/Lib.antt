@@ -1,7 +1,7 @@
 -- The promises settle the answers, the list and the output, hold together as a pair, and shut out the shams.
 pub mod Unique
-pub mod Pair
 pub mod Settled
+pub mod Pair
 pub mod Shams
 -- Writing into the rest of the lent output.
 pub mod WritingLaws

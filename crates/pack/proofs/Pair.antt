@@ -21,9 +21,9 @@ use Rattle.report.specs.Answers.{request}
 use Rattle.layout.specs.Packed.{ShortestCuts}
 use Rattle.layout.specs.Written.{written, Valid}
 use Rattle.layout.proofs.Accepted.{accepted-rows}
-use Rattle.layout.proofs.Unique.{cuts-unique}
-use Rattle.pack.specs.Promise.{MeasureCase, MeasurePromised, writtenAnswer, writtenOver, WrittenAs, WritePromised, PackedInto}
+use Rattle.pack.specs.Promise.{MeasureCase, MeasurePromised, writtenAnswer, writtenOver, WritePromised, PackedInto}
 use Rattle.pack.proofs.Unique.{refused≢given}
+use Rattle.pack.proofs.Settled.{write-settled}
 
 -- What the first call gave: the length and the number of cuts of a packed report, and these cuts.
 record Gave (outcome : Outcome) (before after : List ℕ) (n blocks : ℕ) : Type 0 where
@@ -88,13 +88,7 @@ module _ {report list listed : List ℕ} {n blocks : ℕ} (first : MeasurePromis
 
     -- What the second call promises, by whether these cuts were handed in.
     wrote : (answer ≡ writtenAnswer (same handed (gaveFirst .cuts)) text before) × (after ≡ writtenOver (same handed (gaveFirst .cuts)) text before)
-    wrote =
-        let L : List Observation = gaveFirst .observations in
-        let w : WrittenAs L handed before after answer = rw (gaveFirst .is) at (second .case) in
-        let e : w .cuts ≡ gaveFirst .cuts = cuts-unique L (w .cuts) (gaveFirst .cuts) (w .shortest) (gaveFirst .shortest) in (
-          w .answer-is ∙ ap (λ (cuts : List ℕ). writtenAnswer (same handed cuts) (written cuts L) before) e,
-          w .output-is ∙ ap (λ (cuts : List ℕ). writtenOver (same handed cuts) (written cuts L) before) e,
-        )
+    wrote = write-settled (gaveFirst .is) (gaveFirst .shortest) second
 
     -- Handed the cuts that the first call gave, it writes the packed report, whose length the first call gave.
     pub pair : handed ≡ take blocks listed → PackedInto report n before after answer

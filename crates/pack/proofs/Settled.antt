@@ -1,6 +1,6 @@
--- What the promises come to for two reports: the specimen packs to itself, and the empty report to nothing.
+-- What the promises come to where the cuts of a report are known: so the specimen packs to itself, and the empty report to nothing.
 use Prim.Native.Nat.{ℕ, _≤_, _<_}
-use mathlib.Core.Path.{_≡_, refl, ap, _∙_}
+use mathlib.Core.Path.{_≡_, ap, _∙_}
 use mathlib.Core.List.{List, [], _∷_}
 use native.Mathlib.Omega.{arith}
 use lib.ListN.{length}
@@ -32,17 +32,20 @@ module _ {report : List ℕ} {L : List Observation} {cuts : List ℕ} (e : read 
         c .list-is ∙ ap (λ (x : List ℕ). putOver x before) s,
       )
 
-  -- Handed these cuts.
-  pub write-settled : {before after : List ℕ} {answer : Answer ℕ} → WritePromised report cuts before after answer
-      → (answer ≡ packedAnswer (written cuts L) before) × (after ≡ putOver (written cuts L) before)
-  write-settled {before} p =
-      let c : WrittenAs L cuts before _ _ = rw e at (p .case) in
+  -- Handed any cuts.
+  pub write-settled : {handed before after : List ℕ} {answer : Answer ℕ} → WritePromised report handed before after answer
+      → (answer ≡ writtenAnswer (same handed cuts) (written cuts L) before) × (after ≡ writtenOver (same handed cuts) (written cuts L) before)
+  write-settled {handed} {before} p =
+      let c : WrittenAs L handed before _ _ = rw e at (p .case) in
       let s : c .cuts ≡ cuts = cuts-unique L (c .cuts) cuts (c .shortest) k in (
-        c .answer-is
-            ∙ (ap (λ (x : List ℕ). writtenAnswer (same cuts x) (written x L) before) s ∙ rw (same-refl cuts) refl),
-        c .output-is
-            ∙ (ap (λ (x : List ℕ). writtenOver (same cuts x) (written x L) before) s ∙ rw (same-refl cuts) refl),
+        c .answer-is ∙ ap (λ (x : List ℕ). writtenAnswer (same handed x) (written x L) before) s,
+        c .output-is ∙ ap (λ (x : List ℕ). writtenOver (same handed x) (written x L) before) s,
       )
+
+  -- Handed these.
+  pub right-settled : {before after : List ℕ} {answer : Answer ℕ} → WritePromised report cuts before after answer
+      → (answer ≡ packedAnswer (written cuts L) before) × (after ≡ putOver (written cuts L) before)
+  right-settled p = rw (same-refl cuts) at (write-settled p)
 
 -- The specimen has one block of 104 bytes.
 pub specimen-measured : {before after : List ℕ} {answer : Answer (ℕ × ℕ)} → MeasurePromised specimen before after answer
@@ -51,7 +54,7 @@ specimen-measured p = rw specimen-is at (measure-settled specimen-reads (one-pac
 
 module _ {before after : List ℕ} {answer : Answer ℕ} (p : WritePromised specimen (1 ∷ []) before after answer) where
   specimen-settled : (answer ≡ packedAnswer specimen before) × (after ≡ putOver specimen before)
-  specimen-settled = rw specimen-is at (write-settled specimen-reads (one-packs specimen specimenObservation specimen-reads) p)
+  specimen-settled = rw specimen-is at (right-settled specimen-reads (one-packs specimen specimenObservation specimen-reads) p)
 
   -- It packs to itself where the output has room for its 104 bytes.
   pub specimen-written : 104 ≤ length before → (answer ≡ given 104) × (after ≡ over specimen before)
@@ -74,5 +77,5 @@ empty-measured {before} p =
 pub empty-written : {before after : List ℕ} {answer : Answer ℕ} → WritePromised [] [] before after answer → (answer ≡ given 0) × (after ≡ before)
 unfolding over written
 empty-written {before} p =
-    let s = write-settled empty-reads empty-cuts p in
+    let s = right-settled empty-reads empty-cuts p in
     (s .0 ∙ rw (le-leb 0 (length before) (omega arith)), s .1 ∙ put-room [] before (omega arith) .1)

@@ -26,7 +26,7 @@ use Rattle.layout.proofs.SpecimenPacks.{one-packs, specimen-reads}
 use Rattle.layout.proofs.Shams as Texts
 use Rattle.pack.specs.Promise.{packedAnswer, WritePromised}
 use Rattle.pack.proofs.Unique.{refused≢given}
-use Rattle.pack.proofs.Settled.{write-settled, specimen-written}
+use Rattle.pack.proofs.Settled.{right-settled, specimen-written}
 
 -- A sham takes the report, the cuts and the output, and gives the output after and the answer.
 abbrev pub Sham : Type 0
@@ -79,7 +79,7 @@ writer-caught text caught =
       shortest = shortest;
       output = sham;
       fails = λ p.
-          let s = write-settled (caught .reads) shortest p in
+          let s = right-settled (caught .reads) shortest p in
           caught .fails (record { cuts = cuts; shortest = shortest; is = same-text sham (written cuts L) sham (omega arith) (s .0) (s .1) });
     }
 
