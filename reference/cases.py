@@ -41,13 +41,12 @@ import night
 import nights
 import packing
 import refusals
-import seams
 import sums
 from reports import LONGEST_LIST
 
 HEADER_LENGTH = 60
 LONGEST_TEXT = 70_000
-LONGEST_FILE = 7_150_000
+LONGEST_FILE = 6_750_000
 LETTERS = "CSVPMWNLR"
 
 # A refusal's line. No line of a packed report is one: a row of it has several fields.
@@ -130,7 +129,7 @@ def answer_text(given, report):
 
 def all_cases():
     """The cases of every kind, each kind with a seed of its own."""
-    for kind in (forms, covariances, lines, refusals, asks, limits, damage, packing, cuts, nights, seams):
+    for kind in (forms, covariances, lines, refusals, asks, limits, damage, packing, cuts, nights):
         yield from kind.cases(random.Random("Kyrrbolda " + kind.__name__))
 
 

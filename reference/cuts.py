@@ -26,12 +26,12 @@ SHORT = {**whole_row(), **whole_delay_row(), **whole_doppler_row(),
          **SMALL_ROWS["6"], **SMALL_ROWS["r"], **SMALL_ROWS["d"]}
 
 
-def small_night(spelt, kinds=SMALL_ROWS):
+def small_night(spelt):
     """The report of rows of these letters, no two of them alike, in a block a stretch of one kind."""
     rows = []
     for number, letter in enumerate(spelt, start=1):
-        designation = 1 if ades.is_radar(kinds[letter]) else 4
-        rows.append({**kinds[letter], designation: b"%d" % number})
+        designation = 1 if ades.is_radar(SMALL_ROWS[letter]) else 4
+        rows.append({**SMALL_ROWS[letter], designation: b"%d" % number})
     return laid_out(rows)
 
 

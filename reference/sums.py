@@ -1,5 +1,5 @@
-"""Sums of document 01 and of orders 2, 3, 5, 6 and 7, and checks of the reference against itself, made before any case
-is written."""
+"""Sums of document 01 and of orders 2, 3, 5 and 6, and checks of the reference against itself, made before any case is
+written."""
 
 import datetime
 import decimal
@@ -180,28 +180,6 @@ def sums_of_cuts():
         assert ades.write(report, other, 10_000) == ades.refused(24, 0, 0)
     for cuts in ([], [1], [0], [2, 1]):
         assert ades.length(SPECIMEN[:-1]) == ades.write(SPECIMEN[:-1], cuts, 0) == ades.refused(2, 3, 0)
-
-
-def sums_of_seams():
-    """Order 7: what joining saves. With equal columns on both sides it is their version and column lines, the most that
-    it may be: the specimen twice is 104 + 104 - 53 bytes. With other columns a row has a byte more for each that it
-    lacks. After 52 of document 01's rows the one with remarks saves a byte; after 53 nothing, though one block spans
-    the seam; after 54 none does. Between two rows with remarks 54 rows that alone are a byte shorter in a block of
-    their own make it a byte less than the most."""
-    for specimen, lines in ((SPECIMEN, 15 + 38), (DELAY_SPECIMEN, 15 + 46), (DOPPLER_SPECIMEN, 15 + 50),
-                            (ROVING_SPECIMEN, 15 + 79)):
-        assert ades.length(specimen * 2) == ("measured", len(specimen) * 2 - lines, [2])
-    remarked = row(remarks=b"r")
-    for first, second, saving, cuts in (
-            ([], [row()], 0, [1]), ([row()], [delay_row()], 0, [1, 1]), ([doppler_row()], [roving_row()], 0, [1, 1]),
-            ([row()], [roving_row()], 53 - 7, [2]), ([roving_row()], [row()], 53 - 7, [2]),
-            ([delay_row()], [doppler_row()], 61 + 65 - 80 - 4, [2]),
-            ([row(), delay_row()], [doppler_row(), row()], 61 + 65 - 80 - 4, [1, 2, 1]),
-            ([row()] * 52, [remarked], 53 - 52, [53]), ([row()] * 53, [remarked], 53 - 53, [54]),
-            ([row()] * 54, [remarked], 0, [54, 1]), ([remarked], [row()] * 53, 53 - 53, [54]),
-            ([remarked] + [row()] * 53, [remarked], 61, [55]), ([remarked] + [row()] * 54, [remarked], 61 - 1, [56])):
-        apart = [ades.written(rows, ades.shortest_cuts(rows)) for rows in (first, second)]
-        assert ades.length(b"".join(apart)) == ("measured", sum(map(len, apart)) - saving, cuts)
 
 
 def day_numbers():
@@ -447,7 +425,6 @@ def check_reference(chance):
     sums_of_covariances()
     sums_to_be_run()
     sums_of_cuts()
-    sums_of_seams()
     day_numbers()
     short_decimals()
     covariances_as_doubles(chance)

@@ -1,4 +1,6 @@
 // The account of a block's length: 15, plus name lengths, plus one a column, plus values, plus rows times columns.
+#![tactic(auto)]
+
 ghost use Rattle.std.specs.Prelude.{◌≡◌, ◌^◌, ◌≤◌, ◌<◌, length};
 ghost use Rattle.std.specs.Bool.{beq};
 ghost use Rattle.element.specs.Observation.{is_radar_set};
@@ -12,7 +14,7 @@ use element::set;
 const MOST_ROWS: usize = 1024;
 
 // A block: its rows, its columns, the bytes of their names, the bytes of its values, and all its bytes.
-#[derive(Drop)]
+#[derive(Clone, Copy)]
 pub struct Block {
     pub rows: u64,
     pub columns: u64,
@@ -22,7 +24,7 @@ pub struct Block {
 }
 
 // What rows hold together: their elements and the bytes of their values.
-#[derive(Drop)]
+#[derive(Clone, Copy)]
 struct Gathering {
     set: u64,
     values: u64,

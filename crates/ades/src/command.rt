@@ -10,7 +10,7 @@ use words::print;
 const PARTING: u8 = 0;
 
 // What gathering the program's arguments came to: a command of so many bytes, or more than there is room for.
-#[derive(Drop)]
+#[derive(Clone, Copy)]
 pub(crate) enum Gathered {
     Length(usize),
     TooLong,

@@ -40,7 +40,7 @@ const ANSWERS: usize = 4;
 const INDENT: usize = 40;
 
 // The commands, in the order of the table.
-#[derive(Drop)]
+#[derive(Clone, Copy)]
 pub(crate) enum Command {
     Check,
     Show,

@@ -1,4 +1,6 @@
 // ades: reports of observations checked, shown, valued, listed, measured, packed, joined and audited; night lists written and read.
+#![tactic(auto)]
+
 mod asking;
 mod auditing;
 mod checking;

@@ -20,46 +20,26 @@ pub(crate) fn tell_length(report: &[u8]) -> usize {
     }
 }
 
-// What packing a report came to: a packed report of so many bytes and blocks, or a refusal.
-#[derive(Drop)]
-pub(crate) enum Packed {
-    Into(usize, usize),
-    Refused(Refusal),
-}
-
 // Packs a report into a file, and tells how long it was and is; or tells its refusal, and writes nothing.
 pub(crate) fn pack_into(name: &[u8], report: &[u8]) -> usize {
     let mut cuts = [0u16; ROW_LIMIT];
+    match pack::measure(report, &mut cuts) {
+        Measured::Shortest(_, blocks) => write_into(name, report, list::front(&cuts, blocks)),
+        Measured::Refused(refusal) => refuse(report, refusal),
+    }
+}
+
+// Writes the packed report of a report by its cuts to a file, and tells how long it was and is.
+fn write_into(name: &[u8], report: &[u8], cuts: &[u16]) -> usize {
     let mut output = [0u8; TEXT_LIMIT];
-    match pack(report, &mut cuts, &mut output) {
-        Packed::Into(length, blocks) => keep(
-            name,
-            front(&output, length),
-            report.len(),
-            list::front(&cuts, blocks),
-        ),
-        Packed::Refused(refusal) => refuse(report, refusal),
-    }
-}
-
-// Packs a report into the output, and gives its cuts.
-pub(crate) fn pack(report: &[u8], cuts: &mut [u16], output: &mut [u8]) -> Packed {
-    match pack::measure(report, cuts) {
-        Measured::Shortest(_, blocks) => write(report, cuts, blocks, output),
-        Measured::Refused(refusal) => Packed::Refused(refusal),
-    }
-}
-
-// Writes the packed report of a report, by so many cuts, into the output.
-fn write(report: &[u8], cuts: &[u16], blocks: usize, output: &mut [u8]) -> Packed {
-    match pack::write(report, list::front(cuts, blocks), output) {
-        Written::Length(length) => Packed::Into(length, blocks),
-        Written::Refused(refusal) => Packed::Refused(refusal),
+    match pack::write(report, cuts, &mut output) {
+        Written::Length(length) => keep(name, front(&output, length), report.len(), cuts),
+        Written::Refused(refusal) => refuse(report, refusal),
     }
 }
 
 // Writes a packed report to a file, and tells how long the report was and is.
-pub(crate) fn keep(name: &[u8], packed: &[u8], report: usize, cuts: &[u16]) -> usize {
+fn keep(name: &[u8], packed: &[u8], report: usize, cuts: &[u16]) -> usize {
     if file::write(name, packed) {
         print_packed(packed.len(), report, cuts);
         DONE
@@ -69,7 +49,7 @@ pub(crate) fn keep(name: &[u8], packed: &[u8], report: usize, cuts: &[u16]) -> u
 }
 
 // Tells a refusal.
-pub(crate) fn refuse(report: &[u8], refusal: Refusal) -> usize {
+fn refuse(report: &[u8], refusal: Refusal) -> usize {
     explain::refused(report, refusal);
     REFUSED
 }

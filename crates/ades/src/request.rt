@@ -5,7 +5,7 @@ use explain::names::print_hint;
 use words::number::Number;
 
 // An observation and an element by their numbers, or words that name none, which has been told.
-#[derive(Drop)]
+#[derive(Clone, Copy)]
 pub(crate) enum Request {
     Of(usize, usize),
     Wrong,

@@ -12,7 +12,7 @@ use words::print;
 pub(crate) const NAMES: usize = ROW_LIMIT + 1;
 
 // What reading came to: so many bytes in all, or how it failed, which has been told.
-#[derive(Drop)]
+#[derive(Clone, Copy)]
 pub(crate) enum Joined {
     Till(usize),
     Failed(usize),

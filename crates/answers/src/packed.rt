@@ -20,7 +20,17 @@ pub fn print_length(length: usize, report: usize, cuts: &[u16]) {
 fn print_lengths(length: usize, report: usize, blocks: usize) {
     print::number(length as u64);
     print::between(b" from ", report as u64, b" in ");
-    print::counted(blocks as u64, b" block");
+    print_counted(blocks, b" block");
+}
+
+// Prints a number and what is counted, with its line's end.
+fn print_counted(number: usize, name: &[u8]) {
+    print::number(number as u64);
+    print::bytes(name);
+    if number != 1 {
+        print::bytes(b"s");
+    }
+    print::line_end();
 }
 
 // Prints how many rows each block has.
@@ -38,6 +48,6 @@ fn print_rows(cuts: &[u16]) {
 fn print_saved(length: usize, report: usize) {
     if length <= report {
         print::bytes(b"saves ");
-        print::counted((report - length) as u64, b" byte");
+        print_counted(report - length, b" byte");
     }
 }

@@ -1,4 +1,6 @@
 // Two texts compared by the observations that they read as.
+#![tactic(auto)]
+
 ghost use Rattle.std.specs.Prelude.{◌≡◌, ◌<◌};
 ghost use Rattle.element.specs.Table.{elements};
 ghost use Rattle.report.specs.Report.{read as read_of};
@@ -16,7 +18,7 @@ use text::part::same;
 // What comparing two texts comes to: the same list of so many observations; the first observation in which they differ, counted from 1, and
 // the number of the first element whose values differ there, 0 where one list ends before it; or the refusal of the first text, or else of
 // the second.
-#[derive(Drop)]
+#[derive(Clone, Copy)]
 pub enum Compared {
     Same(usize),
     Differ(usize, usize),

@@ -105,7 +105,7 @@ fn needing(line: &[u8], columns: &[u8], missing: usize) -> usize {
 }
 
 // Elements that stand together, by their first and last number.
-#[derive(Drop)]
+#[derive(Clone, Copy)]
 struct Group {
     first: usize,
     last: usize,

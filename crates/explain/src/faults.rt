@@ -20,7 +20,7 @@ const ROOM: usize = TEXT_LIMIT + 15;
 const MARKS: usize = REFUSALS + 1;
 
 // What stands before a line: nothing under which it can be read, a version line, the column line of a block, or data lines.
-#[derive(Drop)]
+#[derive(Clone, Copy)]
 enum Before {
     Nothing,
     Version,
@@ -30,7 +30,7 @@ enum Before {
 
 // What is known before a line: what stands there, where the block's column line starts, how many data lines there were, and where the
 // block's last row starts that could be read, 0 where it has none.
-#[derive(Drop)]
+#[derive(Clone, Copy)]
 struct Known {
     before: Before,
     columns: usize,

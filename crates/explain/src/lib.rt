@@ -1,4 +1,6 @@
 // A refusal in words: its fixed line, the rule, the offending line with a mark under the field, and what to do.
+#![tactic(auto)]
+
 mod advice;
 pub mod elements;
 pub mod faults;

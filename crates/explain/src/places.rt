@@ -9,7 +9,7 @@ use text::part::at;
 use words::print;
 
 // What a refusal is about: the line, a byte of it, a column's position, an element's number, or the count of fields.
-#[derive(Drop)]
+#[derive(Clone, Copy)]
 enum Mark {
     Nothing,
     Byte,

@@ -7,7 +7,7 @@ use text::lines::up_to;
 use text::output::put;
 
 // The kinds that matter to a writer. A link is of another kind, whatever it leads to; Unknown is a file that cannot be looked at.
-#[derive(Drop)]
+#[derive(Clone, Copy)]
 pub(crate) enum Kind {
     Missing,
     Regular,

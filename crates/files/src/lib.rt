@@ -1,5 +1,7 @@
 // Files read whole, and written so that nothing half written is left. What a file holds no contract can say; that each call ends and
 // never traps is proved, and what an answer owes to the name and the room alone.
+#![tactic(auto)]
+
 mod kind;
 mod reading;
 mod writing;
@@ -14,14 +16,14 @@ use text::part::same;
 const LONGEST: usize = 4000;
 
 // What reading came to: so many bytes, or a failure whose reason has been told.
-#[derive(Drop)]
+#[derive(Clone, Copy)]
 pub enum Input {
     Length(usize),
     Failed,
 }
 
 // What writing came to. Failed is a failure whose reason has been told; of the others but Written none has touched a file.
-#[derive(Drop)]
+#[derive(Clone, Copy)]
 pub enum Output {
     Written,
     NotRegular,

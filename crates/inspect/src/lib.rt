@@ -1,4 +1,6 @@
 // What a person is told about a text beside its answers: parts of it and of tables, its lines and columns, its blocks, what is odd about a line.
+#![tactic(auto)]
+
 pub mod blocks;
 pub mod line;
 pub mod oddity;

@@ -7,7 +7,7 @@ use text::lines::{leading_blanks, trimmed};
 use text::part::{at, front, same, starts_in, tail};
 
 // What is odd about a line.
-#[derive(Drop)]
+#[derive(Clone, Copy)]
 pub enum Oddity {
     Nothing,
     ByteOrderMark,

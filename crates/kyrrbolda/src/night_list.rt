@@ -8,7 +8,7 @@ use night::answer::{Listed, Recorded, Written};
 
 // That what was asked for is done.
 #[repr(C)]
-#[derive(Drop)]
+#[derive(Clone, Copy)]
 pub struct KyrrDone {
     pub refused: u64,
     pub line: u64,
@@ -17,7 +17,7 @@ pub struct KyrrDone {
 
 // How many records a list has.
 #[repr(C)]
-#[derive(Drop)]
+#[derive(Clone, Copy)]
 pub struct KyrrNightChecked {
     pub refused: u64,
     pub line: u64,
@@ -27,7 +27,7 @@ pub struct KyrrNightChecked {
 
 // What a record holds.
 #[repr(C)]
-#[derive(Drop)]
+#[derive(Clone, Copy)]
 pub struct KyrrNightRecord {
     pub refused: u64,
     pub line: u64,

@@ -1,4 +1,3 @@
 pub mod Written
 pub mod Packed
-pub mod Seam
 pub mod Cost

@@ -2,7 +2,7 @@
 use refusal::Refusal;
 
 // What a record holds, as numbers; stn with its blank is one too, low byte first.
-#[derive(Drop)]
+#[derive(Clone, Copy)]
 pub struct Record {
     pub number: u64,
     pub station: u64,
@@ -13,21 +13,21 @@ pub struct Record {
 }
 
 // Writing a record is done, or why it is not.
-#[derive(Drop)]
+#[derive(Clone, Copy)]
 pub enum Written {
     Done,
     Refused(Refusal),
 }
 
 // How many records a list has, or its first bad one.
-#[derive(Drop)]
+#[derive(Clone, Copy)]
 pub enum Listed {
     Records(usize),
     Refused(Refusal),
 }
 
 // What a record of a list holds, or why nothing is given.
-#[derive(Drop)]
+#[derive(Clone, Copy)]
 pub enum Recorded {
     Is(Record),
     Refused(Refusal),

@@ -1,4 +1,6 @@
 // The night list: for each observation of an accepted report one record of 40 bytes, records one after another.
+#![tactic(auto)]
+
 pub mod answer;
 mod list;
 mod noted;

@@ -12,7 +12,7 @@ use element::observation::{is_radar, observation_fault};
 use refusal::{Fault, Kind};
 
 // What the values passed so far tell of their observation: the set of present elements, whether sys is WGS84, whether ctr is 399.
-#[derive(Drop)]
+#[derive(Clone, Copy)]
 pub struct Marks {
     pub present: u64,
     pub wgs84: bool,
@@ -20,7 +20,7 @@ pub struct Marks {
 }
 
 // What the fields of a data line come to: the marks of its observation, or a refusal's kind and place.
-#[derive(Drop)]
+#[derive(Clone, Copy)]
 pub enum Fields {
     Good(Marks),
     Wrong(Kind, usize),

@@ -2,7 +2,6 @@
 // crates below promise; here they are printed beside the theorems that hold them.
 mod costing;
 mod length;
-pub mod parts;
 mod sameness;
 pub mod sources;
 

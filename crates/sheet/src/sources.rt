@@ -9,7 +9,7 @@ use words::number::sum;
 use words::print;
 
 // The byte between two names.
-pub(crate) const PARTING: u8 = 0;
+const PARTING: u8 = 0;
 
 // Prints what comparing the sources with a report came to, in a fixed line: `same N`, or `differ observation N element E`.
 pub fn print_first(found: Compared) {
@@ -74,7 +74,7 @@ pub fn print_answer(names: &[u8], report: &[u8], joined: &[u8], ends: &[usize], 
 }
 
 // An observation of a source, both by number; source 0 where there is none.
-#[derive(Drop)]
+#[derive(Clone, Copy)]
 struct Whose {
     source: usize,
     observation: usize,
@@ -142,7 +142,7 @@ fn print_value(element: usize, place: &[u8], value: &[u8]) {
 }
 
 // The text of a source, by its number.
-pub(crate) fn source<'a>(joined: &'a [u8], ends: &[usize], number: usize) -> &'a [u8] {
+fn source<'a>(joined: &'a [u8], ends: &[usize], number: usize) -> &'a [u8] {
     let start = end_of(ends, less(number, 1));
     front(tail(joined, start), less(end_of(ends, number), start))
 }
@@ -158,7 +158,7 @@ fn less(first: usize, second: usize) -> usize {
 }
 
 // How many observations a text holds; none where it is no report.
-pub(crate) fn observations(text: &[u8]) -> usize {
+fn observations(text: &[u8]) -> usize {
     match report::check(text) {
         Checked::Accepted(count) => count,
         Checked::Refused(_) => 0,

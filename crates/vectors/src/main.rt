@@ -1,6 +1,8 @@
 // Runs the stored cases of the file `cases` and prints their answers.
 // A case is a header of 60 bytes and two texts. The header is a letter, a blank, two numbers of 20 digits with a blank after each,
 // the lengths of the two texts in 7 digits with a blank between, and LF.
+#![tactic(auto)]
+
 mod packing;
 
 ghost use Rattle.std.specs.Prelude.{◌≤◌, length};

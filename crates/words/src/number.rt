@@ -10,7 +10,7 @@ use text::class::Class;
 const LARGEST: u64 = 18446744073709551615;
 
 // What a word says: a number, or something else.
-#[derive(Drop)]
+#[derive(Clone, Copy)]
 pub enum Number {
     Is(u64),
     Nothing,

@@ -30,16 +30,6 @@ pub fn short_between(before: &[u8], n: u16, after: &[u8]) {
     between(before, n as u64, after);
 }
 
-// Prints a number and what is counted, with its line's end.
-pub fn counted(n: u64, name: &[u8]) {
-    number(n);
-    bytes(name);
-    if n != 1 {
-        bytes(b"s");
-    }
-    line_end();
-}
-
 // Prints a number with zeros before it where it has fewer digits than that.
 pub fn padded(n: u64, digits: usize) {
     let mut space = [0u8; 20];
@@ -111,7 +101,7 @@ pub fn line_end() {
 
 // Prints the box's name and version.
 pub fn version() {
-    bytes(b"kyrrbolda 1.7");
+    bytes(b"kyrrbolda 1.6");
 }
 
 // Prints `accepted N`, or the refusal.

@@ -1,0 +1,13 @@
+use Prim.Native.Nat.{◌-◌}
+use native.Mathlib.Omega.{arith}
+use Rattle.text.proofs.LineLaws.{bars_on, bars_end}
+use Rattle.text.proofs.lines.count_bars.Goals as goal
+
+pub overflow_add-count : goal.overflow_add-count
+overflow_add-count c = omega (arith, c.bars-count.ensures.1)
+
+pub loop-i-preserved : goal.loop-i-preserved
+loop-i-preserved c = (omega arith, omega (arith, c.bars-count.ensures.1), omega (arith, c.bars-count.ensures.0, bars_on c.args.text.now c.loop-i.i c.loop-i-test.true))
+
+pub returns : goal.returns
+returns c = (omega (arith, bars_end c.args.text.now c.loop-i.i c.loop-i-test.false), omega arith)
