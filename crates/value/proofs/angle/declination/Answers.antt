@@ -1,0 +1,29 @@
+-- `value::angle::declination` meets its contract.
+use native.Mathlib.Omega.{arith}
+use mathlib.Core.Path.{◌≡◌}
+use mathlib.Core.Bool.{true}
+use borrow.Author.Tests.{leb-true}
+use mir.Facts.{to_z-of_z}
+use mir.Syntax.{w64}
+use mir.Val.{of_z, to_z}
+use Rattle.value.proofs.Checks.{found_fault, found_declination}
+use Rattle.value.proofs.Degrees.{degrees_small}
+use Rattle.value.specs.Angle.{units, declination}
+use Rattle.value.specs.Sign.{bare}
+use Rattle.value.proofs.angle.declination.Goals as goal
+
+pub units-size-requires : goal.units-size-requires
+units-size-requires c =
+    let text = c.args.text.now in
+    let right = found_declination _ _ c.is_fine.ensures text c.check_declination-found.ensures c.if-is_fine.true in
+    let small = degrees_small 2 (bare true text) right.0 in
+    (c.digits.ensures, rw c.bare-rest.ensures (omega (arith, small.0)), rw c.bare-rest.ensures small.1)
+
+pub with_sign-requires : goal.with_sign-requires
+with_sign-requires c =
+    let text = c.args.text.now in
+    let right = found_declination _ _ c.is_fine.ensures text c.check_declination-found.ensures c.if-is_fine.true in
+    rw (c.units-size.ensures, c.bare-rest.ensures) (omega (arith, leb-true (units (bare true text)) 90000000000 right.1))
+
+pub returns : goal.returns
+returns c = found_fault _ _ c.is_fine.ensures (declination c.args.text.now) c.check_declination-found.ensures c.if-is_fine.false

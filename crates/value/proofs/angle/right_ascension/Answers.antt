@@ -1,0 +1,28 @@
+-- `value::angle::right_ascension` meets its contract.
+use native.Mathlib.Omega.{arith}
+use mathlib.Core.Path.{◌≡◌}
+use borrow.Author.Tests.{ltb-true}
+use mir.Facts.{to_z-of_z}
+use mir.Syntax.{w64}
+use mir.Val.{of_z, to_z}
+use Rattle.value.proofs.Checks.{found_fault, found_ascension}
+use Rattle.value.proofs.Degrees.{ascension_small}
+use Rattle.value.specs.Angle.{units, right_ascension}
+use Rattle.value.specs.Sign.{with_sign}
+use Rattle.value.proofs.angle.right_ascension.Goals as goal
+
+pub units-size-requires : goal.units-size-requires
+units-size-requires c =
+    let text = c.args.text.now in
+    let right = found_ascension _ _ c.is_fine.ensures text c.check_right_ascension-found.ensures c.if-is_fine.true in
+    let small = ascension_small text right.0 in
+    (c.digits.ensures, small.0, small.1)
+
+pub with_sign-requires : goal.with_sign-requires
+with_sign-requires c =
+    let text = c.args.text.now in
+    let right = found_ascension _ _ c.is_fine.ensures text c.check_right_ascension-found.ensures c.if-is_fine.true in
+    omega (arith, c.units-size.ensures, ltb-true (units text) 360000000000 right.1)
+
+pub returns : goal.returns
+returns c = found_fault _ _ c.is_fine.ensures (right_ascension c.args.text.now) c.check_right_ascension-found.ensures c.if-is_fine.false

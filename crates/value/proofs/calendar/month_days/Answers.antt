@@ -1,0 +1,32 @@
+-- `value::calendar::month_days` meets its contract.
+use Prim.Native.Nat.{◌+◌, ◌-◌}
+use mathlib.Core.Path.{◌≡◌}
+use native.Mathlib.Omega.{arith}
+use lib.ListN.{get_or}
+use Rattle.value.proofs.Days.{month_small, months_direct, month_starts, with_leap_day, without_leap_day}
+use Rattle.value.specs.Calendar.{month_days}
+use Rattle.value.proofs.calendar.month_days.Goals as goal
+
+march-on : (c : tie.Then1) → get_or month_starts (c.args.month - 1) 0 + 1 ≡ month_days c.args.leap (c.args.month - 1)
+march-on c =
+    let entry = c.before in
+    with_leap_day entry.args.leap entry.args.month entry.requires.0 entry.requires.1 c.if-leap-month.true
+
+pub overflow_cast-start : goal.overflow_cast-start
+overflow_cast-start c =
+    let leap = c.args.leap in
+    let month = c.args.month in
+    omega (arith, months_direct leap month c.requires.0 c.requires.1, month_small leap (month - 1), c.requires.1)
+
+pub overflow_add-result : goal.overflow_add-result
+overflow_add-result c =
+    let entry = c.before in
+    omega (arith, march-on c, month_small entry.args.leap (entry.args.month - 1), entry.requires.1)
+
+pub returns-then-leap-month : goal.returns-then-leap-month
+returns-then-leap-month c = march-on c
+
+pub returns-else-leap-month : goal.returns-else-leap-month
+returns-else-leap-month c =
+    let entry = c.before in
+    without_leap_day entry.args.leap entry.args.month entry.requires.0 entry.requires.1 c.if-leap-month.false
