@@ -1,5 +1,4 @@
 -- `explain::faults::list_rest` never traps, and ends.
-use Prim.Native.Nat.{◌-◌}
 use native.Mathlib.Omega.{arith}
 use Rattle.inspect.proofs.PartLaws.{after_within, after_further}
 use Rattle.explain.proofs.faults.list_rest.Goals as goal
