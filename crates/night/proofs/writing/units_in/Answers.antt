@@ -1,5 +1,8 @@
 -- `night::writing::units_in` meets its contract.
-use Rattle.night.proofs.SignedLaws.{bits_back}
+use borrow.Author.Rules.{rules}
+use mir.Facts.{to_z-of_z}
+use mir.Syntax.{w64}
+use mir.Val.{SFits}
 use Rattle.night.proofs.writing.units_in.Goals as goal
 
 pub returns-in-Bad : goal.returns-in-Bad
@@ -21,4 +24,6 @@ pub returns-in-Scaled : goal.returns-in-Scaled
 returns-in-Scaled c = rw c.in-Scaled.is
 
 pub returns-in-Angle : goal.returns-in-Angle
-returns-in-Angle c = let h = c.in-Angle.known_told-1-own in ?
+returns-in-Angle c =
+    let fits : SFits w64 c.in-Angle.units = search rules in
+    rw (to_z-of_z {w = w64} fits, c.in-Angle.is)
