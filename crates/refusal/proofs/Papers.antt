@@ -1,7 +1,7 @@
 -- The paper's table of refusals, and that no two refusals are written alike.
 use Prim.Native.Nat.{ℕ, ◌-◌}
 use mathlib.Core.Path.{◌≡◌, refl, sym, ap, ◌∙◌}
-use mathlib.Core.List.{List, [], ◌∷◌, map}
+use mathlib.Core.List.{[], ◌∷◌, map}
 use lib.ListN.{get_or}
 use Rattle.refusal.specs.Number.{number_of}
 use Rattle.refusal.specs.Paper.{reasons, Paper, paper}

@@ -11,7 +11,7 @@ use native.Mathlib.Numerals.{add-one}
 use native.Mathlib.Omega.{arith}
 use native.Mathlib.Nat.{add-zero, sub-zero, zero-sub, suc-sub-suc}
 use Rattle.text.proofs.Bools.{bools, both, neither}
-use Rattle.text.specs.Lines.{is_printable, printable, up_to, first_line, Lines, end, cut, line, lines, fields, into, leading_blanks, drop_lead, before, drop_trail, trim, field_from, TrimmedIs, FieldAt, ScannedIs}
+use Rattle.text.specs.Lines.{is_printable, printable, up_to, first_line, cut, line, lines, fields, into, leading_blanks, drop_lead, before, drop_trail, trim, field_from, TrimmedIs, FieldAt, ScannedIs}
 use Rattle.text.specs.Steps.{bars_in, holds, is_tight, Scanning}
 
 pub up_to_le : (m : ℕ) (s : List ℕ) → up_to m s ≤ length s

@@ -1,5 +1,5 @@
 -- What private functions over lines and fields promise each other. A reviewer of the rules can skip this file.
-use Rattle.std.specs.Prelude.{ℕ, suc, ◌+◌, ◌-◌, ◌≤◌, ◌≡◌, List, [], ◌∷◌, Bool, true, false, cond, not, ◌&&◌, ◌||◌, length, drop, get_or, eqb}
+use Rattle.std.specs.Prelude.{ℕ, suc, ◌+◌, ◌≤◌, ◌≡◌, List, [], ◌∷◌, Bool, true, false, cond, not, ◌&&◌, ◌||◌, length, drop, get_or, eqb}
 use Rattle.text.specs.Lines.{bar, blank, line_feed, printable, up_to, first_line, fields}
 
 -- How many bars a text has.

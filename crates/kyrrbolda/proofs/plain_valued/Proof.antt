@@ -60,21 +60,21 @@ returns-2 : tie.Need-returns-2
 returns-2 c = rw c.before.enum-told2.given.1 c.valued-as2.ensures
 
 returns-3 : tie.Need-returns-3
-returns-3 c = rw c.before.before.answer.given.1 (c.valued-as3.ensures ∙ ap (λ z. valued_as 2 z 0) (to_z-of_z (record { sfits = c.before.known-told.given.0.1 })))
+returns-3 c = rw c.before.before.answer.given.1 (c.valued-as3.ensures ∙ ap (λ z. valued_as 2 z 0) (to_z-of_z {w = w64} (record { sfits = c.before.known-told.given.0.1 })))
 
 returns-4 : tie.Need-returns-4
-returns-4 c = rw c.before.before.answer2.given.1 (c.valued-as4.ensures ∙ ap (λ z. valued_as 3 z c.before.before.answer2.given.0.1.0) (to_z-of_z (record { sfits = c.before.known-told2.given.0.1 })))
+returns-4 c = rw c.before.before.answer2.given.1 (c.valued-as4.ensures ∙ ap (λ z. valued_as 3 z c.before.before.answer2.given.0.1.0) (to_z-of_z {w = w64} (record { sfits = c.before.known-told2.given.0.1 })))
 
 returns-5 : tie.Need-returns-5
-returns-5 c = rw c.before.before.answer3.given.1 (c.valued-as5.ensures ∙ ap (λ z. valued_as 4 z c.before.before.answer3.given.0.1.0) (to_z-of_z (record { sfits = c.before.known-told3.given.0.1 })))
+returns-5 c = rw c.before.before.answer3.given.1 (c.valued-as5.ensures ∙ ap (λ z. valued_as 4 z c.before.before.answer3.given.0.1.0) (to_z-of_z {w = w64} (record { sfits = c.before.known-told3.given.0.1 })))
 
 returns-6 : tie.Need-returns-6
-returns-6 c = rw c.before.before.answer4.given.1 (c.valued-as6.ensures ∙ ap (λ z. valued_as 5 z 0) (to_z-of_z (record { sfits = c.before.known-told4.given.0.1 })))
+returns-6 c = rw c.before.before.answer4.given.1 (c.valued-as6.ensures ∙ ap (λ z. valued_as 5 z 0) (to_z-of_z {w = w64} (record { sfits = c.before.known-told4.given.0.1 })))
 
 returns-7 : tie.Need-returns-7
 returns-7 c =
     let given = c.before.before.answer5.given in
-    rw given.1 (c.scaled.ensures ∙ ap (scaled_plainly given.0.0 given.0.1.0 given.0.1.1.0) (to_z-of_z (record { sfits = c.before.known-told5.given.1.1.1.0.1 })))
+    rw given.1 (c.scaled.ensures ∙ ap (scaled_plainly given.0.0 given.0.1.0 given.0.1.1.0) (to_z-of_z {w = w64} (record { sfits = c.before.known-told5.given.1.1.1.0.1 })))
 
 returns-8 : tie.Need-returns-8
 returns-8 c = rw (c.number.ensures, c.before.before.answer6.given.1)

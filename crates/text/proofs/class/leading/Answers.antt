@@ -1,5 +1,4 @@
 -- `text::class::leading` meets its contract. The invariant: the bytes passed and those that what is left starts with are those that the text starts with.
-use Prim.Native.Nat.{◌-◌}
 use lib.ListN.{get_or}
 use mathlib.Core.Bool.{false, true}
 use mathlib.Core.Path.{◌∙◌, ◌≡◌, sym}

@@ -1,5 +1,5 @@
 -- `text::digits::number_of` meets its contract. The invariant: what is left, put after the number so far, makes the number of the text; it has no more digits than bytes passed.
-use Prim.Native.Nat.{◌-◌, zero-le}
+use Prim.Native.Nat.{zero-le}
 use lib.ListN.{get_or}
 use mathlib.Core.Path.{◌∙◌, refl, sym}
 use native.Mathlib.Omega.{arith}

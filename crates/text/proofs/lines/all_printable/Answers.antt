@@ -1,4 +1,3 @@
-use Prim.Native.Nat.{◌-◌}
 use native.Mathlib.Omega.{arith}
 use Rattle.text.proofs.LineLaws.{printable_on, printable_end}
 use Rattle.text.proofs.lines.all_printable.Goals as goal

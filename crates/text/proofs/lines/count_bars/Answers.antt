@@ -1,4 +1,3 @@
-use Prim.Native.Nat.{◌-◌}
 use native.Mathlib.Omega.{arith}
 use Rattle.text.proofs.LineLaws.{bars_on, bars_end}
 use Rattle.text.proofs.lines.count_bars.Goals as goal

@@ -1,4 +1,3 @@
-use Prim.Native.Nat.{◌-◌}
 use native.Mathlib.Omega.{arith}
 use Rattle.text.proofs.LineLaws.{holds_on, holds_end}
 use Rattle.text.proofs.lines.has.Goals as goal

@@ -1,4 +1,3 @@
-use Prim.Native.Nat.{◌-◌}
 use Rattle.text.proofs.LineLaws.{trail_start, trail_on, trail_here, trail_end}
 use borrow.Author.Rules.{rules}
 use Rattle.text.proofs.lines.kept.Goals as goal

@@ -1,4 +1,3 @@
-use Prim.Native.Nat.{◌-◌}
 use native.Mathlib.Omega.{arith}
 use Rattle.text.proofs.LineLaws.{blanks_on, blanks_here, blanks_end}
 use borrow.Author.Rules.{rules}

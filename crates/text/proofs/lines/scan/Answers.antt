@@ -1,5 +1,4 @@
-use Prim.Native.Nat.{◌-◌, ◌+◌}
-use mathlib.Core.Bool.{true}
+use Prim.Native.Nat.{◌+◌}
 use mathlib.Core.Path.{sym, ◌∙◌}
 use native.Mathlib.Omega.{arith}
 use Rattle.text.proofs.LineLaws.{scan_start, scan_over}

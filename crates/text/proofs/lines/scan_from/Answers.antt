@@ -1,5 +1,4 @@
 -- `text::lines::scan_from` meets its contract.
-use Prim.Native.Nat.{◌-◌}
 use mathlib.Core.Path.{sym, ◌∙◌}
 use Rattle.text.proofs.LineLaws.{scan_here, scan_on, scan_plain, scan_end}
 use Rattle.text.proofs.lines.scan_from.Goals as goal

@@ -1,4 +1,4 @@
-use Prim.Native.Nat.{◌-◌, ◌+◌}
+use Prim.Native.Nat.{◌+◌}
 use native.Mathlib.Omega.{arith}
 use Rattle.text.proofs.LineLaws.{up_to_on, up_to_here, up_to_step}
 use Rattle.text.proofs.lines.up_to.Goals as goal

@@ -1,4 +1,3 @@
-use Prim.Native.Nat.{◌-◌}
 use native.Mathlib.Omega.{arith}
 use Rattle.text.proofs.LineLaws.{up_to_on, up_to_here, up_to_end}
 use borrow.Author.Rules.{rules}

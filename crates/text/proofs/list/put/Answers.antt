@@ -1,5 +1,4 @@
 -- `text::list::put` meets its contract. The numbers before i are over the start of the list.
-use Prim.Native.Nat.{◌-◌}
 use mathlib.Core.Path.{sym}
 use borrow.Author.Rules.{rules}
 use Rattle.text.proofs.Outputs.{put_none, putting_start, putting_on, putting_end}

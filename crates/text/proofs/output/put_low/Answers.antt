@@ -1,5 +1,4 @@
 -- `text::output::put_low` meets its contract. The bytes before i are written, and those from i on are those of what is left of the number.
-use Prim.Native.Nat.{◌-◌}
 use borrow.Author.Rules.{rules}
 use Rattle.text.proofs.Outputs.{low_start, low_on, low_end, low_none}
 use Rattle.text.proofs.output.put_low.Goals as goal

@@ -1,5 +1,4 @@
 -- `text::output::spelt` meets its contract. From the last byte to the first: the number so far is what the bytes passed spell.
-use Prim.Native.Nat.{◌-◌}
 use mathlib.Core.Path.{◌≡◌}
 use lib.ListN.{length}
 use native.Mathlib.Omega.{arith}

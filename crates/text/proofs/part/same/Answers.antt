@@ -1,5 +1,5 @@
 -- `text::part::same` meets its contract. The invariant: the texts are equally long, and what is left of them decides.
-use Prim.Native.Nat.{◌-◌, zero-le}
+use Prim.Native.Nat.{zero-le}
 use mathlib.Core.Path.{◌∙◌, refl, sym}
 use native.Mathlib.Omega.{arith}
 use Rattle.text.proofs.Parts.{same_end, same_length, same_no, same_yes}

@@ -1,5 +1,5 @@
 -- `text::part::starts_in` meets its contract. The invariant: the text is as long as the shape, and what is left of both decides.
-use Prim.Native.Nat.{◌-◌, zero-le}
+use Prim.Native.Nat.{zero-le}
 use lib.ListN.{drop, get_or}
 use mathlib.Core.Bool.{false, true}
 use mathlib.Core.Path.{◌∙◌, ◌≡◌, refl, sym}

@@ -24,5 +24,13 @@ with_sign-requires c =
     let right = found_ascension _ _ c.is_fine.ensures text c.check_right_ascension-found.ensures c.if-is_fine.true in
     omega (arith, c.units-size.ensures, ltb-true (units text) 360000000000 right.1)
 
+pub returns-then-is_fine : goal.returns-then-is_fine
+unfolding right_ascension with_sign
+returns-then-is_fine c =
+    let right = found_ascension _ _ c.is_fine.ensures c.args.text.now c.check_right_ascension-found.ensures c.if-is_fine.true in
+    let signed = c.with_sign in
+    let e : to_z w64 (of_z w64 signed.result) ≡ signed.result = to_z-of_z {w = w64} (record { sfits = signed.type_inv }) in
+    rw (e, signed.ensures, c.units-size.ensures, right.0, right.1)
+
 pub returns : goal.returns
 returns c = found_fault _ _ c.is_fine.ensures (right_ascension c.args.text.now) c.check_right_ascension-found.ensures c.if-is_fine.false

@@ -3,43 +3,41 @@ use Prim.Native.Nat.{◌+◌, ◌-◌, ◌≤◌}
 use lib.Dec.{lit≤}
 use mathlib.Core.Path.{◌∙◌}
 use native.Mathlib.Omega.{arith}
-use Rattle.value.proofs.Days.{DateParts, date_parts, month_length_small, month_small, year_small}
+use Rattle.value.proofs.Days.{date_parts, month_length_small, month_small, year_small}
 use Rattle.value.proofs.Signs.{less_fits, less_is}
 use Rattle.value.specs.Calendar.{day_number, is_leap}
 use Rattle.value.proofs.calendar.day_number.Goals as goal
+use Rattle.value.proofs.calendar.day_number.Goals.{After-month_days}
 
-date : (c : tie.Start) → DateParts c.args.year c.args.month c.args.day
-date c = date_parts c.args.year c.args.month c.args.day c.requires
-
-small : (c : tie.After-month-days) → c.year_days.result + c.month_days.result + c.args.day ≤ 3663000
+small : (c : After-month_days) → c.year_days.result + c.month_days.result + c.args.day ≤ 3663000
 small c =
     let args = c.args in
-    let parts = date c.before.before.before in
+    let parts = date_parts args.year args.month args.day c.requires in
     let years = year_small args.year in
     let months = month_small c.is_leap.result (args.month - 1) in
     let days = month_length_small (is_leap args.year) args.month in
     omega (arith, c.year_days.ensures, years, c.month_days.ensures, months, days, parts.high_year, parts.high_month, parts.high_day)
 
 pub year_days-requires : goal.year_days-requires
-year_days-requires c = ((date c).low_year, (date c).high_year)
+year_days-requires c = let parts = date_parts c.args.year c.args.month c.args.day c.requires in (parts.low_year, parts.high_year)
 
 pub month_days-requires : goal.month_days-requires
-month_days-requires c = ((date c.before.before).low_month, (date c.before.before).high_month)
+month_days-requires c = let parts = date_parts c.args.year c.args.month c.args.day c.requires in (parts.low_month, parts.high_month)
 
 pub overflow_add-days : goal.overflow_add-days
-overflow_add-days c = omega (arith, small c)
+overflow_add-days c = omega (arith, small (goal.at.overflow_add-days c).After-month_days)
 
 pub overflow_add-days-2 : goal.overflow_add-days-2
-overflow_add-days-2 c = omega (arith, small c)
+overflow_add-days-2 c = omega (arith, small (goal.at.overflow_add-days-2 c).After-month_days)
 
 pub overflow_cast-result : goal.overflow_cast-result
-overflow_cast-result c = record { sfits = omega (arith, small c) }
+overflow_cast-result c = record { sfits = omega (arith, small (goal.at.overflow_cast-result c).After-month_days) }
 
 pub overflow_sub-result : goal.overflow_sub-result
 overflow_sub-result c =
     let year-days = c.year_days in
     let args = c.args in
-    less_fits (year-days.result + c.month_days.result + args.day) 678941 (omega (arith, small c)) (lit≤ tt)
+    less_fits (year-days.result + c.month_days.result + args.day) 678941 (omega (arith, small (goal.at.overflow_sub-result c).After-month_days)) (lit≤ tt)
 
 pub returns : goal.returns
 unfolding day_number
@@ -47,5 +45,5 @@ returns c =
     let year-days = c.year_days in
     let month-days = c.month_days in
     let args = c.args in
-    less_is (year-days.result + month-days.result + args.day) 678941 (omega (arith, small c)) (lit≤ tt)
+    less_is (year-days.result + month-days.result + args.day) 678941 (omega (arith, small (goal.at.returns c).After-month_days)) (lit≤ tt)
     ∙ rw (month-days.ensures, c.is_leap.ensures, year-days.ensures)

@@ -6,10 +6,11 @@ use lib.ListN.{get_or}
 use Rattle.value.proofs.Days.{month_small, months_direct, month_starts, with_leap_day, without_leap_day}
 use Rattle.value.specs.Calendar.{month_days}
 use Rattle.value.proofs.calendar.month_days.Goals as goal
+use Rattle.value.proofs.calendar.month_days.Goals.{Then-leap-month}
 
-march-on : (c : tie.Then1) → get_or month_starts (c.args.month - 1) 0 + 1 ≡ month_days c.args.leap (c.args.month - 1)
+march-on : (c : Then-leap-month) → get_or month_starts (c.args.month - 1) 0 + 1 ≡ month_days c.args.leap (c.args.month - 1)
 march-on c =
-    let entry = c.before in
+    let entry = c in
     with_leap_day entry.args.leap entry.args.month entry.requires.0 entry.requires.1 c.if-leap-month.true
 
 pub overflow_cast-start : goal.overflow_cast-start
@@ -20,13 +21,13 @@ overflow_cast-start c =
 
 pub overflow_add-result : goal.overflow_add-result
 overflow_add-result c =
-    let entry = c.before in
-    omega (arith, march-on c, month_small entry.args.leap (entry.args.month - 1), entry.requires.1)
+    let entry = c in
+    omega (arith, march-on (goal.at.overflow_add-result c).Then-leap-month, month_small entry.args.leap (entry.args.month - 1), entry.requires.1)
 
 pub returns-then-leap-month : goal.returns-then-leap-month
-returns-then-leap-month c = march-on c
+returns-then-leap-month c = march-on (goal.at.returns-then-leap-month c).Then-leap-month
 
 pub returns-else-leap-month : goal.returns-else-leap-month
 returns-else-leap-month c =
-    let entry = c.before in
+    let entry = c in
     without_leap_day entry.args.leap entry.args.month entry.requires.0 entry.requires.1 c.if-leap-month.false

@@ -1,5 +1,4 @@
 -- `value::covariance::before_mark` meets its contract. The invariant: the bytes passed and those that stand before a mark in what is left are those before the first mark.
-use Prim.Native.Nat.{◌-◌}
 use lib.ListN.{get_or}
 use mathlib.Core.Bool.{false, true}
 use mathlib.Core.Path.{◌∙◌, ◌≡◌, sym}

@@ -1,4 +1,3 @@
-use Prim.Native.Nat.{◌-◌}
 use native.Mathlib.Omega.{arith}
 use Rattle.value.proofs.Numerals.{positive_here, positive_on, positive_end}
 use Rattle.value.proofs.decimal.is_positive.Goals as goal

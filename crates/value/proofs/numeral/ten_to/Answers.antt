@@ -1,5 +1,5 @@
 -- `value::numeral::ten_to` meets its contract. The invariant: the power so far is that of the turns made.
-use Prim.Native.Nat.{◌-◌, ◌^◌, zero-le, ℕ}
+use Prim.Native.Nat.{◌^◌, zero-le, ℕ}
 use mathlib.Core.Path.{◌∙◌, ◌≡◌, ap, refl}
 use native.Mathlib.Omega.{arith}
 use Rattle.text.proofs.Numbers.{pow_below, pow_step}
