@@ -2,6 +2,7 @@
 use element::name::put_whole;
 use element::table::LONGEST;
 use inspect::table::{entry, row};
+use std::io;
 use text::part::front;
 use words::print;
 
@@ -20,44 +21,46 @@ const COMPANY: usize = 4;
 const DEFINITION: usize = 5;
 
 // Prints the name of an element, by its number.
-pub fn print_name(element: usize) {
-    print_entry(element, NAME);
+pub fn print_name(rt: &impl Print, element: usize) -> io::Result<()> {
+    print_entry(rt, element, NAME)
 }
 
 // Prints an element's name and what a value of it may be.
-pub fn print_rule(element: usize) {
-    print_name(element);
-    print_line(b": ", element, RULE);
+pub fn print_rule(rt: &impl Print, element: usize) -> io::Result<()> {
+    print_name(rt, element)?;
+    print_line(rt, b": ", element, RULE)
 }
 
 // Prints all that is said of an element.
-pub fn print_all(element: usize) {
-    print_line(b"", element, RULE);
-    print_line(b"Refused: ", element, REFUSED);
-    print_line(b"As a number: ", element, VALUE);
-    print_line(b"In an observation: ", element, COMPANY);
-    print_line(b"Rule: ", element, DEFINITION);
+pub fn print_all(rt: &impl Print, element: usize) -> io::Result<()> {
+    print_line(rt, b"", element, RULE)?;
+    print_line(rt, b"Refused: ", element, REFUSED)?;
+    print_line(rt, b"As a number: ", element, VALUE)?;
+    print_line(rt, b"In an observation: ", element, COMPANY)?;
+    print_line(rt, b"Rule: ", element, DEFINITION)
 }
 
 // Prints words and after them what a column of the table says of an element, and ends the line.
-fn print_line(words: &[u8], element: usize, column: usize) {
-    print::bytes(words);
-    print_entry(element, column);
-    print::line_end();
+fn print_line(rt: &impl Print, words: &[u8], element: usize, column: usize) -> io::Result<()> {
+    print::bytes(rt, words)?;
+    print_entry(rt, element, column)?;
+    print::line_end(rt)
 }
 
 // Prints what a column of the table says of an element, by its number.
-fn print_entry(element: usize, column: usize) {
+fn print_entry(rt: &impl Print, element: usize, column: usize) -> io::Result<()> {
     let mut name = [0u8; LONGEST];
     if 0 < element {
         let length = put_whole(element - 1, &mut name);
-        print_named(front(&name, length), column);
+        print_named(rt, front(&name, length), column)?;
     }
+    Ok(())
 }
 
 // Prints what a column of the table says of an element, by its name.
-fn print_named(name: &[u8], column: usize) {
+fn print_named(rt: &impl Print, name: &[u8], column: usize) -> io::Result<()> {
     print_in(
+        rt,
         b"\
           permID|a number from 1 to 61999999 without leading zero; or a comet's: 1 to 6 digits without leading zero, P or D, perhaps a \
             fragment as -A or -AB|9; 10 above 61999999 in eight digits|none|optical: one of permID, provID, artSat and trkSub is needed; \
@@ -174,10 +177,10 @@ fn print_named(name: &[u8], column: usize) {
             pos3; radar: foreign|`covariance` (crates/value/specs/Covariance.antt)\n",
         name,
         column,
-    );
+    )
 }
 
 // Prints the entry of a table in the row of a name and a column.
-fn print_in(table: &[u8], name: &[u8], column: usize) {
-    print::bytes(entry(table, row(table, name), column));
+fn print_in(rt: &impl Print, table: &[u8], name: &[u8], column: usize) -> io::Result<()> {
+    print::bytes(rt, entry(table, row(table, name), column))
 }

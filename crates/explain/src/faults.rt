@@ -8,6 +8,7 @@ use inspect::part;
 use refusal::{Fault, Kind, Refusal};
 use report::answer::Checked;
 use report::{ROW_LIMIT, TEXT_LIMIT};
+use std::io;
 use text::output::put;
 use text::part::{at, front, tail};
 use words::print;
@@ -39,20 +40,21 @@ struct Known {
 }
 
 // Prints the first fault of a report and those after it, and the rules that are broken.
-pub fn print_faults(report: &[u8], first: Refusal) {
+pub fn print_faults(rt: &impl Print, report: &[u8], first: Refusal) -> io::Result<()> {
     let mut told = [0u8; MARKS];
-    print_refusal(first, &mut told);
-    list_rest(report, first.line, &mut told);
-    print_rules(&told);
+    print_refusal(rt, first, &mut told)?;
+    list_rest(rt, report, first.line, &mut told)?;
+    print_rules(rt, &told)?;
     print::bytes(
+        rt,
         b"The first line is what `ades check` answers. Those after it are help: each line is judged by itself, under its block's column line, and its kind by the last right row before it.\n",
-    );
+    )
 }
 
 // Prints the faults of the lines after that of a number; none after a fault of the whole text.
-fn list_rest(report: &[u8], first: usize, told: &mut [u8]) {
+fn list_rest(rt: &impl Print, report: &[u8], first: usize, told: &mut [u8]) -> io::Result<()> {
     if first == 0 {
-        return;
+        return Ok(());
     }
     let mut space = [0u8; ROOM];
     let mut known = Known {
@@ -66,15 +68,15 @@ fn list_rest(report: &[u8], first: usize, told: &mut [u8]) {
     while start < report.len() {
         let fault = judge(report, start, known, &mut space);
         number = next(number);
-        print_fault(fault, first, number, told);
+        print_fault(rt, fault, first, number, told)?;
         if is_over(fault) {
-            return;
+            return Ok(());
         }
         known = known_after(report, start, known, fault);
         start = part::after(report, start, b'\n');
     }
     let before = known.before;
-    print_fault(fault_at_end(before), first, next(number), told);
+    print_fault(rt, fault_at_end(before), first, next(number), told)
 }
 
 // The fault of the line that starts at a place.
@@ -277,32 +279,41 @@ fn is_too_many(kind: Kind) -> bool {
 }
 
 // Prints a fault in a line, if there is one and the line stands after the first with a fault.
-fn print_fault(fault: Fault, first: usize, line: usize, told: &mut [u8]) {
+fn print_fault(
+    rt: &impl Print,
+    fault: Fault,
+    first: usize,
+    line: usize,
+    told: &mut [u8],
+) -> io::Result<()> {
     if line <= first {
-        return;
+        return Ok(());
     }
     if let Fault::At(kind, place) = fault {
-        print_refusal(Refusal { kind, line, place }, told);
+        print_refusal(rt, Refusal { kind, line, place }, told)?;
     }
+    Ok(())
 }
 
 // Prints a refusal in its fixed line, and marks it as told.
-fn print_refusal(refusal: Refusal, told: &mut [u8]) {
+fn print_refusal(rt: &impl Print, refusal: Refusal, told: &mut [u8]) -> io::Result<()> {
     let kind = refusal.kind;
     let number = refusal::number(kind) as usize;
-    print::refusal_line(refusal);
+    print::refusal_line(rt, refusal)?;
     if number < told.len() {
         told[number] = 1;
     }
+    Ok(())
 }
 
 // Prints the rule of each refusal that was told.
-fn print_rules(told: &[u8]) {
+fn print_rules(rt: &impl Print, told: &[u8]) -> io::Result<()> {
     let mut number: usize = 0;
     while number < told.len() {
         if told[number] == 1 {
-            refusals::print_numbered(number);
+            refusals::print_numbered(rt, number)?;
         }
         number += 1;
     }
+    Ok(())
 }

@@ -11,22 +11,23 @@ mod places;
 pub mod refusals;
 
 use refusal::Refusal;
+use std::io;
 use words::print;
 
 // Prints a refusal of a report, and explains it.
-pub fn refused(report: &[u8], refusal: Refusal) {
-    print::refusal_line(refusal);
-    explain(report, refusal);
+pub fn refused(rt: &impl Print, report: &[u8], refusal: Refusal) -> io::Result<()> {
+    print::refusal_line(rt, refusal)?;
+    explain(rt, report, refusal)
 }
 
 // Prints the rule that a refusal of a report stands for, the line and what to do.
-pub fn explain(report: &[u8], refusal: Refusal) {
+pub fn explain(rt: &impl Print, report: &[u8], refusal: Refusal) -> io::Result<()> {
     let kind = refusal.kind;
     let number = refusal.line;
-    refusals::print_rule(kind);
+    refusals::print_rule(rt, kind)?;
     if 0 < number {
-        places::print_place(report, kind, number - 1, refusal.place);
+        places::print_place(rt, report, kind, number - 1, refusal.place)
     } else {
-        refusals::print_advice(kind);
+        refusals::print_advice(rt, kind)
     }
 }

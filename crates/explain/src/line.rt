@@ -1,6 +1,7 @@
 // A line shown, with a mark under a part of it. A long line is cut, so that what is shown stays readable.
 ghost use Rattle.std.specs.Prelude.{◌≤◌};
 
+use std::io;
 use text::lines::is_printable;
 use text::part::{front, tail};
 use words::print;
@@ -13,16 +14,16 @@ const BEFORE: usize = 40;
 
 // Prints a line, and under it a mark from a place on, so many bytes long and at least one. Of a long line only what is near the mark
 // is printed.
-pub fn print_marked(line: &[u8], from: usize, length: usize) {
+pub fn print_marked(rt: &impl Print, line: &[u8], from: usize, length: usize) -> io::Result<()> {
     let first = first_shown(from);
-    print_from(line, first);
-    print_if(0 < first, b"   ");
-    print_mark(from - first, length);
+    print_from(rt, line, first)?;
+    print_if(rt, 0 < first, b"   ")?;
+    print_mark(rt, from - first, length)
 }
 
 // Prints a line, or the start of a long one.
-pub fn print_line(line: &[u8]) {
-    print_from(line, 0);
+pub fn print_line(rt: &impl Print, line: &[u8]) -> io::Result<()> {
+    print_from(rt, line, 0)
 }
 
 // The first byte that is shown of a line with a mark at a place: that of the line, if the mark is near it.
@@ -37,33 +38,34 @@ fn first_shown(from: usize) -> usize
 }
 
 // Prints a line from a byte on, with dots for what is left out.
-fn print_from(line: &[u8], first: usize) {
+fn print_from(rt: &impl Print, line: &[u8], first: usize) -> io::Result<()> {
     let mut space = [0u8; SHOWN];
     let rest = tail(line, first);
     clean(rest, &mut space);
-    print_if(0 < first, b"...");
-    print::bytes(front(&space, rest.len()));
-    print_if(SHOWN < rest.len(), b"...");
-    print::line_end();
+    print_if(rt, 0 < first, b"...")?;
+    print::bytes(rt, front(&space, rest.len()))?;
+    print_if(rt, SHOWN < rest.len(), b"...")?;
+    print::line_end(rt)
 }
 
 // Prints a text where the test is true.
-fn print_if(test: bool, text: &[u8]) {
+fn print_if(rt: &impl Print, test: bool, text: &[u8]) -> io::Result<()> {
     if test {
-        print::bytes(text);
+        print::bytes(rt, text)?;
     }
+    Ok(())
 }
 
 // Prints blanks up to a place, and a mark there, so many bytes long and at least one.
-fn print_mark(place: usize, length: usize) {
+fn print_mark(rt: &impl Print, place: usize, length: usize) -> io::Result<()> {
     let mut space = [0u8; SHOWN];
     draw(&mut space, place);
-    print::bytes(front(&space, place));
+    print::bytes(rt, front(&space, place))?;
     if length == 0 {
-        print::bytes(b"^\n");
+        print::bytes(rt, b"^\n")
     } else {
-        print::bytes(front(tail(&space, place), length));
-        print::line_end();
+        print::bytes(rt, front(tail(&space, place), length))?;
+        print::line_end(rt)
     }
 }
 

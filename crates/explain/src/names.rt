@@ -2,20 +2,22 @@
 use crate::elements;
 use inspect::part::count;
 use inspect::table::row;
+use std::io;
 use suggestion::suggested;
 use words::print;
 
 // Prints what a name that is no element's may stand for: an ADES element outside this box's scope, or a slip; nothing where it is neither.
-pub fn print_hint(name: &[u8]) {
+pub fn print_hint(rt: &impl Print, name: &[u8]) -> io::Result<()> {
     let element = suggested(name);
     if is_outside(name) {
-        print::bytes(name);
-        print::bytes(b" is an ADES element outside this box's scope.\n");
+        print::bytes(rt, name)?;
+        print::bytes(rt, b" is an ADES element outside this box's scope.\n")?;
     } else if 0 < element {
-        print::bytes(b"Is ");
-        elements::print_name(element);
-        print::bytes(b" meant?\n");
+        print::bytes(rt, b"Is ")?;
+        elements::print_name(rt, element)?;
+        print::bytes(rt, b" meant?\n")?;
     }
+    Ok(())
 }
 
 // Whether a name is that of an element that ADES has and this box does not take.

@@ -4,6 +4,7 @@ use element::ELEMENTS;
 use inspect::table::entry;
 use refusal::Kind;
 use report::{ROW_LIMIT, TEXT_LIMIT};
+use std::io;
 use words::print;
 
 // How many refusals there are.
@@ -21,77 +22,80 @@ const PLACE: usize = 3;
 const DEFINITION: usize = 4;
 
 // Prints the rule that a kind of refusal stands for.
-pub fn print_rule(kind: Kind) {
+pub fn print_rule(rt: &impl Print, kind: Kind) -> io::Result<()> {
     let number = refusal::number(kind) as usize;
-    print_entry(number, RULE);
-    print_limit(number);
+    print_entry(rt, number, RULE)?;
+    print_limit(rt, number)
 }
 
 // Prints what to do about a kind of refusal.
-pub fn print_advice(kind: Kind) {
-    print_entry(refusal::number(kind) as usize, ADVICE);
+pub fn print_advice(rt: &impl Print, kind: Kind) -> io::Result<()> {
+    print_entry(rt, refusal::number(kind) as usize, ADVICE)
 }
 
 // Prints the definition that states the rule of a kind of refusal.
-pub fn print_definition(kind: Kind) {
-    print_entry(refusal::number(kind) as usize, DEFINITION);
+pub fn print_definition(rt: &impl Print, kind: Kind) -> io::Result<()> {
+    print_entry(rt, refusal::number(kind) as usize, DEFINITION)
 }
 
 // Prints all that is said of the refusal of a number.
-pub fn print_all(number: usize) {
-    print_entry(number, RULE);
-    print_limit(number);
-    print_entry(number, ADVICE);
-    print_kinds(number);
-    print::bytes(b"Line: ");
-    print_entry(number, LINE);
-    print::bytes(b"Place: ");
-    print_entry(number, PLACE);
-    print::bytes(b"Rule: ");
-    print_entry(number, DEFINITION);
+pub fn print_all(rt: &impl Print, number: usize) -> io::Result<()> {
+    print_entry(rt, number, RULE)?;
+    print_limit(rt, number)?;
+    print_entry(rt, number, ADVICE)?;
+    print_kinds(rt, number)?;
+    print::bytes(rt, b"Line: ")?;
+    print_entry(rt, number, LINE)?;
+    print::bytes(rt, b"Place: ")?;
+    print_entry(rt, number, PLACE)?;
+    print::bytes(rt, b"Rule: ")?;
+    print_entry(rt, number, DEFINITION)
 }
 
 // Prints the rule that the refusal of a number stands for.
-pub fn print_numbered(number: usize) {
-    print::between(b"", number as u64, b": ");
-    print_entry(number, RULE);
+pub fn print_numbered(rt: &impl Print, number: usize) -> io::Result<()> {
+    print::between(rt, b"", number as u64, b": ")?;
+    print_entry(rt, number, RULE)
 }
 
 // Prints the limit that a rule speaks of, or what a record is, if it speaks of one.
-fn print_limit(number: usize) {
+fn print_limit(rt: &impl Print, number: usize) -> io::Result<()> {
     match number {
-        1 => print::between(b"The limit is ", TEXT_LIMIT as u64, b" bytes.\n"),
-        14 => print::between(b"The limit is ", ROW_LIMIT as u64, b" data lines.\n"),
+        1 => print::between(rt, b"The limit is ", TEXT_LIMIT as u64, b" bytes.\n"),
+        14 => print::between(rt, b"The limit is ", ROW_LIMIT as u64, b" data lines.\n"),
         17 => print::between(
+            rt,
             b"The elements are numbered from 1 to ",
             ELEMENTS as u64,
             b".\n",
         ),
-        20 => print_record(),
-        _ => {}
+        20 => print_record(rt),
+        _ => Ok(()),
     }
 }
 
 // Prints what each kind of observation must hold, or what may not stand in it, if a rule speaks of it.
-fn print_kinds(number: usize) {
+fn print_kinds(rt: &impl Print, number: usize) -> io::Result<()> {
     match number {
         11 => {
-            kinds::print_optical();
-            kinds::print_radar();
+            kinds::print_optical(rt)?;
+            kinds::print_radar(rt)
         }
-        22 => kinds::print_foreign(),
-        _ => {}
+        22 => kinds::print_foreign(rt),
+        _ => Ok(()),
     }
 }
 
 // Prints what a record of the night list holds, byte by byte.
-fn print_record() {
+fn print_record(rt: &impl Print) -> io::Result<()> {
     print::between(
+        rt,
         b"A record has 40 bytes, numbers low byte first and in two's complement; a list has at most ",
         ROW_LIMIT as u64,
         b" records.\n",
-    );
+    )?;
     print::bytes(
+        rt,
         b"Bytes 0 to 3: its number less one.\n\
           Bytes 4 to 7: stn, 3 or 4 alphanumerics without a blank at either end, a blank after 3.\n\
           Bytes 8 to 11: the day, -678575 to 2973483, which are 0001-01-01 and 9999-12-31.\n\
@@ -99,13 +103,15 @@ fn print_record() {
           Bytes 20 to 27: ra, 0 to 359999999999, in units of 0.000000001 degree.\n\
           Bytes 28 to 35: dec, -90000000000 to 90000000000, in the same units.\n\
           Bytes 36 to 39: zero.\n",
-    );
+    )
 }
 
 // Prints an entry of the table of refusals, in the row of a refusal's number: the first row is empty.
-fn print_entry(row: usize, column: usize) {
-    print::bytes(entry(
-        b"\n\
+fn print_entry(rt: &impl Print, row: usize, column: usize) -> io::Result<()> {
+    print::bytes(
+        rt,
+        entry(
+            b"\n\
           The text is longer than a report may be.|Part it into several reports.|0|0|`read` (crates/report/specs/Report.antt)\n\
           The line has no line feed.|End the last line with a line feed.|the line|0|`readFrom` (crates/report/specs/Report.antt)\n\
           The line has a byte outside 0x20 to 0x7E.|Take the byte out, or write it in plain ASCII.|the line|0|`step` \
@@ -154,8 +160,9 @@ fn print_entry(row: usize, column: usize) {
             observation.|0|0|`writtenAnswer` (crates/night/specs/List.antt)\n\
           The cuts are not those that measuring gives for this report.|Measure the report, and hand on the cuts as they are given, one for \
             each block.|0|0|`writtenAnswer` (crates/pack/specs/Promise.antt)\n",
-        row,
-        column,
-    ));
-    print::line_end();
+            row,
+            column,
+        ),
+    )?;
+    print::line_end(rt)
 }

@@ -4,55 +4,68 @@ ghost use Rattle.std.specs.Prelude.{◌≤◌, ◌≡◌, length};
 use account::Block;
 use inspect::ROWS;
 use inspect::blocks::fill_rows;
+use std::io;
 use words::number::sum;
 use words::print;
 
 // Prints the account of a packed report block by block, and what other blocks of the same rows would have cost.
-pub(crate) fn print_costs(report: &[u8], packed: &[u8], sets: &[u64], sizes: &[u32])
+pub(crate) fn print_costs(
+    rt: &impl Print,
+    report: &[u8],
+    packed: &[u8],
+    sets: &[u64],
+    sizes: &[u32],
+) -> io::Result<()>
     requires { length sizes.now ≡ length sets.now }
 {
     let as_cut = cost_as_cut(report, sets, sizes);
     let by_change = cost_by_change(sets, sizes);
-    print_blocks(packed, sets, sizes);
-    print::between(b"   total: ", packed.len() as u64, b"\n");
-    print::between(b"   as it came: ", report.len() as u64, b"\n");
+    print_blocks(rt, packed, sets, sizes)?;
+    print::between(rt, b"   total: ", packed.len() as u64, b"\n")?;
+    print::between(rt, b"   as it came: ", report.len() as u64, b"\n")?;
     print::between(
+        rt,
         b"   in the blocks that it came in, without padding: ",
         as_cut,
         b"\n",
-    );
-    print_one_block(sets, sizes);
+    )?;
+    print_one_block(rt, sets, sizes)?;
     print::between(
+        rt,
         b"   with a block at every change of columns: ",
         by_change,
         b"\n",
-    );
+    )
 }
 
 // Prints what all rows would cost in one block, which only rows of one kind can share.
-fn print_one_block(sets: &[u64], sizes: &[u32]) {
+fn print_one_block(rt: &impl Print, sets: &[u64], sizes: &[u32]) -> io::Result<()> {
     if account::rows_of_kind(sets) < sets.len() {
-        print::bytes(b"   in one block: not possible, since a block holds one kind\n");
+        print::bytes(
+            rt,
+            b"   in one block: not possible, since a block holds one kind\n",
+        )
     } else {
         print::between(
+            rt,
             b"   in one block: ",
             account::account(sets, sizes).bytes,
             b"\n",
-        );
+        )
     }
 }
 
 // Prints the account of each block of a text that holds the rows.
-fn print_blocks(text: &[u8], sets: &[u64], sizes: &[u32])
+fn print_blocks(rt: &impl Print, text: &[u8], sets: &[u64], sizes: &[u32]) -> io::Result<()>
     requires { length sizes.now ≡ length sets.now }
 {
     let mut rows = [0usize; ROWS];
     let count = fill_rows(text, &mut rows);
-    print_accounts(sets, sizes, &rows[..count]);
+    print_accounts(rt, sets, sizes, &rows[..count])
 }
 
 // Prints the account of each block, of so many rows each.
-fn print_accounts(sets: &[u64], sizes: &[u32], rows: &[usize])
+fn print_accounts(rt: &impl Print, sets: &[u64], sizes: &[u32], rows: &[usize]) -> io::Result<()>
     requires { length sizes.now ≡ length sets.now }
 {
     let mut first: usize = 0;
@@ -60,9 +73,10 @@ fn print_accounts(sets: &[u64], sizes: &[u32], rows: &[usize])
     while k < rows.len() {
         let end = end_of(first, rows[k], sets.len());
         k += 1;
-        print_account(k, part_account(sets, sizes, first, end));
+        print_account(rt, k, part_account(sets, sizes, first, end))?;
         first = end;
     }
+    Ok(())
 }
 
 // The bytes of the rows in the blocks of a text that holds them.
@@ -128,12 +142,12 @@ fn part_account(sets: &[u64], sizes: &[u32], first: usize, end: usize) -> Block
 }
 
 // Prints the account of a block, by its number.
-fn print_account(number: usize, block: Block) {
-    print::between(b"   block ", number as u64, b": 15");
-    print::between(b" + names ", block.names, b"");
-    print::between(b" + columns ", block.columns, b"");
-    print::between(b" + values ", block.values, b"");
-    print::between(b" + rows ", block.rows, b"");
-    print::between(b" x columns ", block.columns, b"");
-    print::between(b" = ", block.bytes, b"\n");
+fn print_account(rt: &impl Print, number: usize, block: Block) -> io::Result<()> {
+    print::between(rt, b"   block ", number as u64, b": 15")?;
+    print::between(rt, b" + names ", block.names, b"")?;
+    print::between(rt, b" + columns ", block.columns, b"")?;
+    print::between(rt, b" + values ", block.values, b"")?;
+    print::between(rt, b" + rows ", block.rows, b"")?;
+    print::between(rt, b" x columns ", block.columns, b"")?;
+    print::between(rt, b" = ", block.bytes, b"\n")
 }

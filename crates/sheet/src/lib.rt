@@ -9,65 +9,77 @@ use explain::refusals;
 use pack::{Measured, Written};
 use refusal::Refusal;
 use report::{ROW_LIMIT, TEXT_LIMIT};
+use std::io;
 use text::list;
 use text::part::front;
 use words::print;
 
 // Prints which program made the sheet, and of which report: its name, its bytes and its observations.
-pub fn print_heading(name: &[u8], length: usize, count: usize) {
-    print_file(name, length);
-    print::between(b", ", count as u64, b" observations.\n");
+pub fn print_heading(rt: &impl Print, name: &[u8], length: usize, count: usize) -> io::Result<()> {
+    print_file(rt, name, length)?;
+    print::between(rt, b", ", count as u64, b" observations.\n")
 }
 
 // Prints which program made the sheet, and of which file of so many bytes.
-fn print_file(name: &[u8], length: usize) {
-    print::bytes(b"Sheet of ");
-    print::version();
-    print::bytes(b". Report: ");
-    print::bytes(name);
-    print::between(b", ", length as u64, b" bytes");
+fn print_file(rt: &impl Print, name: &[u8], length: usize) -> io::Result<()> {
+    print::bytes(rt, b"Sheet of ")?;
+    print::version(rt)?;
+    print::bytes(rt, b". Report: ")?;
+    print::bytes(rt, name)?;
+    print::between(rt, b", ", length as u64, b" bytes")
 }
 
 // Prints the sheet of a refused report after its first line.
-pub fn print_refused(name: &[u8], report: &[u8], refusal: Refusal) {
+pub fn print_refused(
+    rt: &impl Print,
+    name: &[u8],
+    report: &[u8],
+    refusal: Refusal,
+) -> io::Result<()> {
     let kind = refusal.kind;
-    print_file(name, report.len());
-    print::bytes(b".\n1. Is it a report? No. Its first fault, in the order of the rules:\n");
-    explain::explain(report, refusal);
-    print::bytes(b"   The rule is ");
-    refusals::print_definition(kind);
-    print_proof_of_check();
-    print::bytes(b"2. and 3. Nothing is packed of a refused report.\n");
+    print_file(rt, name, report.len())?;
+    print::bytes(
+        rt,
+        b".\n1. Is it a report? No. Its first fault, in the order of the rules:\n",
+    )?;
+    explain::explain(rt, report, refusal)?;
+    print::bytes(rt, b"   The rule is ")?;
+    refusals::print_definition(rt, kind)?;
+    print_proof_of_check(rt)?;
+    print::bytes(rt, b"2. and 3. Nothing is packed of a refused report.\n")
 }
 
 // Prints that a report is accepted: the answer to the first question.
-pub fn print_report() {
-    print::bytes(b"1. Is it a report? Yes.\n");
-    print_proof_of_check();
+pub fn print_report(rt: &impl Print) -> io::Result<()> {
+    print::bytes(rt, b"1. Is it a report? Yes.\n")?;
+    print_proof_of_check(rt)
 }
 
 // Prints what is proved of the answer to the first question.
-fn print_proof_of_check() {
+fn print_proof_of_check(rt: &impl Print) -> io::Result<()> {
     print::bytes(
+        rt,
         b"   Proved of every text: `check` answers what `read` says (crates/report/specs/Report.antt).\n",
-    );
+    )
 }
 
 // Prints the answers about the packed report of a report, the first after a question; nothing for a refused one.
-pub fn print_packing(report: &[u8], question: &[u8]) {
+pub fn print_packing(rt: &impl Print, report: &[u8], question: &[u8]) -> io::Result<()> {
     let mut cuts = [0u16; ROW_LIMIT];
     if let Measured::Shortest(_, blocks) = pack::measure(report, &mut cuts) {
-        print_packed(report, list::front(&cuts, blocks), question);
+        print_packed(rt, report, list::front(&cuts, blocks), question)?;
     }
+    Ok(())
 }
 
 // Prints the answers about the packed report that is written of a report by its cuts, the first after a question.
-fn print_packed(report: &[u8], cuts: &[u16], question: &[u8]) {
+fn print_packed(rt: &impl Print, report: &[u8], cuts: &[u16], question: &[u8]) -> io::Result<()> {
     let mut output = [0u8; TEXT_LIMIT];
     if let Written::Length(length) = pack::write(report, cuts, &mut output) {
         let packed = front(&output, length);
-        print::bytes(question);
-        sameness::print_same(report, packed);
-        length::print_length(report, packed);
+        print::bytes(rt, question)?;
+        sameness::print_same(rt, report, packed)?;
+        length::print_length(rt, report, packed)?;
     }
+    Ok(())
 }

@@ -4,6 +4,7 @@ use comparison::Compared;
 use explain::elements::print_name;
 use inspect::part;
 use report::answer::Checked;
+use std::io;
 use text::part::{front, tail};
 use words::number::sum;
 use words::print;
@@ -12,65 +13,93 @@ use words::print;
 const PARTING: u8 = 0;
 
 // Prints what comparing the sources with a report came to, in a fixed line: `same N`, or `differ observation N element E`.
-pub fn print_first(found: Compared) {
+pub fn print_first(rt: &impl Print, found: Compared) -> io::Result<()> {
     match found {
-        Compared::Same(observations) => print::between(b"same ", observations as u64, b"\n"),
+        Compared::Same(observations) => print::between(rt, b"same ", observations as u64, b"\n"),
         Compared::Differ(observation, element) => {
-            print::between(b"differ observation ", observation as u64, b"");
-            print::between(b" element ", element as u64, b"\n");
+            print::between(rt, b"differ observation ", observation as u64, b"")?;
+            print::between(rt, b" element ", element as u64, b"\n")
         }
-        _ => print::bytes(b"differ observation 0 element 0\n"),
+        _ => print::bytes(rt, b"differ observation 0 element 0\n"),
     }
 }
 
 // Prints the sources: the name, the bytes and the observations of each.
-pub fn print_sources(names: &[u8], joined: &[u8], ends: &[usize]) {
+pub fn print_sources(
+    rt: &impl Print,
+    names: &[u8],
+    joined: &[u8],
+    ends: &[usize],
+) -> io::Result<()> {
     let sources = part::count(names, PARTING);
     let mut before: u64 = 0;
     let mut k: usize = 0;
     while k < sources {
         k += 1;
         let text = source(joined, ends, k);
-        before = print_source(k, part::numbered(names, k, PARTING), text, before);
+        before = print_source(rt, k, part::numbered(names, k, PARTING), text, before)?;
     }
+    Ok(())
 }
 
 // Prints a source, by its number: its name, its bytes and its observations, so many of the others standing before them; says how many stand
 // before those of the next.
-fn print_source(number: usize, name: &[u8], text: &[u8], before: u64) -> u64 {
+fn print_source(
+    rt: &impl Print,
+    number: usize,
+    name: &[u8],
+    text: &[u8],
+    before: u64,
+) -> io::Result<u64> {
     let till = sum(before, observations(text) as u64);
-    print::between(b"Source ", number as u64, b": ");
-    print::bytes(name);
-    print::between(b", ", text.len() as u64, b" bytes, ");
-    print_numbers(before, till);
-    till
+    print::between(rt, b"Source ", number as u64, b": ")?;
+    print::bytes(rt, name)?;
+    print::between(rt, b", ", text.len() as u64, b" bytes, ")?;
+    print_numbers(rt, before, till)?;
+    Ok(till)
 }
 
 // Prints the observations after one and up to another, by their numbers.
-fn print_numbers(before: u64, till: u64) {
+fn print_numbers(rt: &impl Print, before: u64, till: u64) -> io::Result<()> {
     if before < till {
-        print::between(b"observations ", before + 1, b"");
-        print::between(b" to ", till, b".\n");
+        print::between(rt, b"observations ", before + 1, b"")?;
+        print::between(rt, b" to ", till, b".\n")
     } else {
-        print::bytes(b"no observations.\n");
+        print::bytes(rt, b"no observations.\n")
     }
 }
 
 // Prints whether a report holds the observations of its sources, and where it does not the first difference.
-pub fn print_answer(names: &[u8], report: &[u8], joined: &[u8], ends: &[usize], found: Compared) {
-    print::bytes(b"2. Does it hold the observations of its sources, in the same order? ");
+pub fn print_answer(
+    rt: &impl Print,
+    names: &[u8],
+    report: &[u8],
+    joined: &[u8],
+    ends: &[usize],
+    found: Compared,
+) -> io::Result<()> {
+    print::bytes(
+        rt,
+        b"2. Does it hold the observations of its sources, in the same order? ",
+    )?;
     match found {
-        Compared::Same(observations) => print::between(b"Yes, all ", observations as u64, b".\n"),
+        Compared::Same(observations) => print::between(
+            rt,
+            b"Yes, all ",
+            observations as u64,
+            b".\n",
+        )?,
         Compared::Differ(observation, element) => {
-            print_whose(names, joined, ends, observation);
-            print_values(names, report, joined, observation, element);
+            print_whose(rt, names, joined, ends, observation)?;
+            print_values(rt, names, report, joined, observation, element)?;
         }
-        _ => print::bytes(b"No.\n"),
+        _ => print::bytes(rt, b"No.\n")?,
     }
     print::bytes(
+        rt,
         b"   Proved of every two texts: they are the same exactly where both are accepted as one list of\n\
           \x20  observations, `same-reads`, `reads-same` (crates/comparison/proofs/Same.antt).\n",
-    );
+    )
 }
 
 // An observation of a source, both by number; source 0 where there is none.
@@ -81,19 +110,26 @@ struct Whose {
 }
 
 // Prints that an observation is the first that differs, and which one of which source it is.
-fn print_whose(names: &[u8], joined: &[u8], ends: &[usize], observation: usize) {
+fn print_whose(
+    rt: &impl Print,
+    names: &[u8],
+    joined: &[u8],
+    ends: &[usize],
+    observation: usize,
+) -> io::Result<()> {
     let whose = whose_is(joined, ends, part::count(names, PARTING), observation);
     print::between(
+        rt,
         b"No.\n   The first that differs is observation ",
         observation as u64,
         b", ",
-    );
+    )?;
     if 0 < whose.source {
-        print::between(b"observation ", whose.observation as u64, b" of ");
-        print::bytes(part::numbered(names, whose.source, PARTING));
-        print::bytes(b".\n");
+        print::between(rt, b"observation ", whose.observation as u64, b" of ")?;
+        print::bytes(rt, part::numbered(names, whose.source, PARTING))?;
+        print::bytes(rt, b".\n")
     } else {
-        print::bytes(b"which no source has.\n");
+        print::bytes(rt, b"which no source has.\n")
     }
 }
 
@@ -119,26 +155,36 @@ fn whose_is(joined: &[u8], ends: &[usize], sources: usize, observation: usize) -
 }
 
 // Prints the values in which an observation differs; none where the sources or the report end before it.
-fn print_values(names: &[u8], report: &[u8], joined: &[u8], observation: usize, element: usize) {
+fn print_values(
+    rt: &impl Print,
+    names: &[u8],
+    report: &[u8],
+    joined: &[u8],
+    observation: usize,
+    element: usize,
+) -> io::Result<()> {
     if element == 0 {
-        print::bytes(b"   The sources and the report have not as many observations.\n");
-        return;
+        print::bytes(
+            rt,
+            b"   The sources and the report have not as many observations.\n",
+        )?;
+        return Ok(());
     }
     let there = report::shown(joined, observation, element);
     let here = report::shown(report, observation, element);
-    print_value(element, b"the sources", there);
-    print_value(element, part::numbered(names, 0, PARTING), here);
+    print_value(rt, element, b"the sources", there)?;
+    print_value(rt, element, part::numbered(names, 0, PARTING), here)
 }
 
 // Prints the value of an element, and where it is so.
-fn print_value(element: usize, place: &[u8], value: &[u8]) {
-    print::bytes(b"   Its ");
-    print_name(element);
-    print::bytes(b" in ");
-    print::bytes(place);
-    print::bytes(b": ");
-    print::bytes(value);
-    print::line_end();
+fn print_value(rt: &impl Print, element: usize, place: &[u8], value: &[u8]) -> io::Result<()> {
+    print::bytes(rt, b"   Its ")?;
+    print_name(rt, element)?;
+    print::bytes(rt, b" in ")?;
+    print::bytes(rt, place)?;
+    print::bytes(rt, b": ")?;
+    print::bytes(rt, value)?;
+    print::line_end(rt)
 }
 
 // The text of a source, by its number.

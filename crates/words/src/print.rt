@@ -1,74 +1,74 @@
 // Answers printed on standard output, each in its fixed line.
 use crate::number::magnitude;
-use libc::STDOUT_FILENO;
 use refusal::Refusal;
 use report::answer::{Checked, Valued};
+use std::io;
 use text::part::{at, front};
 
 // How many bytes are printed in hexadecimal by one call of the system.
 const STEP: usize = 512;
 
 // Prints a text as it is.
-pub fn bytes(text: &[u8]) {
-    io::write_all(STDOUT_FILENO, text);
+pub fn bytes(rt: &impl Print, text: &[u8]) -> io::Result<()> {
+    rt.write_all(text)
 }
 
 // Prints a number.
-pub fn number(n: u64) {
-    io::print_decimal(STDOUT_FILENO, n);
+pub fn number(rt: &impl Print, n: u64) -> io::Result<()> {
+    rt.print(n)
 }
 
 // Prints a number between words.
-pub fn between(before: &[u8], n: u64, after: &[u8]) {
-    bytes(before);
-    number(n);
-    bytes(after);
+pub fn between(rt: &impl Print, before: &[u8], n: u64, after: &[u8]) -> io::Result<()> {
+    bytes(rt, before)?;
+    number(rt, n)?;
+    bytes(rt, after)
 }
 
 // Prints a number of 16 bits between words.
-pub fn short_between(before: &[u8], n: u16, after: &[u8]) {
-    between(before, n as u64, after);
+pub fn short_between(rt: &impl Print, before: &[u8], n: u16, after: &[u8]) -> io::Result<()> {
+    between(rt, before, n as u64, after)
 }
 
 // Prints a number with zeros before it where it has fewer digits than that.
-pub fn padded(n: u64, digits: usize) {
-    let mut space = [0u8; 20];
-    let count = io::decimal(n, &mut space);
-    zeros(count, digits);
-    bytes(&space[..count]);
+pub fn padded(rt: &impl Print, n: u64, digits: usize) -> io::Result<()> {
+    let count = n.checked_ilog10().map_or(1, |more| more as usize + 1);
+    zeros(rt, count, digits)?;
+    number(rt, n)
 }
 
 // Prints the zeros before a number that has `count` digits and is to have `digits`.
-fn zeros(count: usize, digits: usize) {
+fn zeros(rt: &impl Print, count: usize, digits: usize) -> io::Result<()> {
     if count < digits {
-        bytes(front(b"00000000000000000000", digits - count));
+        bytes(rt, front(b"00000000000000000000", digits - count))?;
     }
+    Ok(())
 }
 
 // Prints a number with its sign.
-pub fn signed(n: i64) {
+pub fn signed(rt: &impl Print, n: i64) -> io::Result<()> {
     if n < 0 {
-        bytes(b"-");
+        bytes(rt, b"-")?;
     }
-    number(magnitude(n));
+    number(rt, magnitude(n))
 }
 
 // Prints a text in hexadecimal: two digits a byte, the high one first.
-pub fn hexadecimal(text: &[u8]) {
+pub fn hexadecimal(rt: &impl Print, text: &[u8]) -> io::Result<()> {
     let mut i: usize = 0;
     while STEP <= text.len() - i {
         let then = i + STEP;
-        hexadecimal_step(&text[i..then]);
+        hexadecimal_step(rt, &text[i..then])?;
         i = then;
     }
-    hexadecimal_step(&text[i..]);
+    hexadecimal_step(rt, &text[i..])
 }
 
 // Prints a text in hexadecimal, as many bytes of it as a step has.
-fn hexadecimal_step(text: &[u8]) {
+fn hexadecimal_step(rt: &impl Print, text: &[u8]) -> io::Result<()> {
     let mut space = [0u8; 2 * STEP];
     let count = spell(text, &mut space);
-    bytes(front(&space, count));
+    bytes(rt, front(&space, count))
 }
 
 // Puts the digits of a text in hexadecimal into the space, as many as there is room for, and says how many.
@@ -95,94 +95,94 @@ fn digit(text: &[u8], index: usize) -> u8 {
 }
 
 // Ends a line.
-pub fn line_end() {
-    bytes(b"\n");
+pub fn line_end(rt: &impl Print) -> io::Result<()> {
+    bytes(rt, b"\n")
 }
 
 // Prints the box's name and version.
-pub fn version() {
-    bytes(b"kyrrbolda 1.6");
+pub fn version(rt: &impl Print) -> io::Result<()> {
+    bytes(rt, b"kyrrbolda 1.6")
 }
 
 // Prints `accepted N`, or the refusal.
-pub fn check_line(answer: Checked) {
+pub fn check_line(rt: &impl Print, answer: Checked) -> io::Result<()> {
     match answer {
-        Checked::Accepted(observations) => accepted_line(observations),
-        Checked::Refused(refusal) => refusal_line(refusal),
+        Checked::Accepted(observations) => accepted_line(rt, observations),
+        Checked::Refused(refusal) => refusal_line(rt, refusal),
     }
 }
 
 // Prints `accepted N`.
-pub fn accepted_line(observations: usize) {
-    between(b"accepted ", observations as u64, b"\n");
+pub fn accepted_line(rt: &impl Print, observations: usize) -> io::Result<()> {
+    between(rt, b"accepted ", observations as u64, b"\n")
 }
 
 // Prints `records N`.
-pub fn records_line(records: usize) {
-    between(b"records ", records as u64, b"\n");
+pub fn records_line(rt: &impl Print, records: usize) -> io::Result<()> {
+    between(rt, b"records ", records as u64, b"\n")
 }
 
 // Prints `refused K line L place P`.
-pub fn refusal_line(refusal: Refusal) {
+pub fn refusal_line(rt: &impl Print, refusal: Refusal) -> io::Result<()> {
     let kind = refusal.kind;
-    between(b"refused ", refusal::number(kind), b"");
-    between(b" line ", refusal.line as u64, b"");
-    between(b" place ", refusal.place as u64, b"\n");
+    between(rt, b"refused ", refusal::number(kind), b"")?;
+    between(rt, b" line ", refusal.line as u64, b"")?;
+    between(rt, b" place ", refusal.place as u64, b"\n")
 }
 
 // Prints `whole N`, `decimal N places P`, `time DAY MICROSECONDS`, `angle N`, `scaled N power P`, `absent`, `no value`, or the refusal.
-pub fn value_line(answer: Valued) {
+pub fn value_line(rt: &impl Print, answer: Valued) -> io::Result<()> {
     match answer {
-        Valued::Whole(whole) => numbered(b"whole ", whole),
-        Valued::Decimal(whole, places) => decimal_line(whole, places),
-        Valued::Time(day, microseconds) => time_line(day, microseconds),
-        Valued::Angle(units) => numbered(b"angle ", units),
-        Valued::Scaled(negative, high, low, power) => scaled_line(negative, high, low, power),
-        Valued::Absent => bytes(b"absent\n"),
-        Valued::NoValue => bytes(b"no value\n"),
-        Valued::Refused(refusal) => refusal_line(refusal),
+        Valued::Whole(whole) => numbered(rt, b"whole ", whole),
+        Valued::Decimal(whole, places) => decimal_line(rt, whole, places),
+        Valued::Time(day, microseconds) => time_line(rt, day, microseconds),
+        Valued::Angle(units) => numbered(rt, b"angle ", units),
+        Valued::Scaled(negative, high, low, power) => scaled_line(rt, negative, high, low, power),
+        Valued::Absent => bytes(rt, b"absent\n"),
+        Valued::NoValue => bytes(rt, b"no value\n"),
+        Valued::Refused(refusal) => refusal_line(rt, refusal),
     }
 }
 
 // Prints a line of a word and a number.
-fn numbered(word: &[u8], n: i64) {
-    bytes(word);
-    signed(n);
-    line_end();
+fn numbered(rt: &impl Print, word: &[u8], n: i64) -> io::Result<()> {
+    bytes(rt, word)?;
+    signed(rt, n)?;
+    line_end(rt)
 }
 
 // Prints `decimal N places P`.
-fn decimal_line(whole: i64, places: usize) {
-    bytes(b"decimal ");
-    signed(whole);
-    between(b" places ", places as u64, b"\n");
+fn decimal_line(rt: &impl Print, whole: i64, places: usize) -> io::Result<()> {
+    bytes(rt, b"decimal ")?;
+    signed(rt, whole)?;
+    between(rt, b" places ", places as u64, b"\n")
 }
 
 // Prints `time DAY MICROSECONDS`.
-fn time_line(day: i64, microseconds: u64) {
-    bytes(b"time ");
-    signed(day);
-    between(b" ", microseconds, b"\n");
+fn time_line(rt: &impl Print, day: i64, microseconds: u64) -> io::Result<()> {
+    bytes(rt, b"time ")?;
+    signed(rt, day)?;
+    between(rt, b" ", microseconds, b"\n")
 }
 
 // Prints `scaled N power P`.
-fn scaled_line(negative: bool, high: u64, low: u64, power: i64) {
-    bytes(b"scaled ");
-    in_parts(negative, high, low);
-    bytes(b" power ");
-    signed(power);
-    line_end();
+fn scaled_line(rt: &impl Print, negative: bool, high: u64, low: u64, power: i64) -> io::Result<()> {
+    bytes(rt, b"scaled ")?;
+    in_parts(rt, negative, high, low)?;
+    bytes(rt, b" power ")?;
+    signed(rt, power)?;
+    line_end(rt)
 }
 
 // Prints a whole number from its sign and its two parts, high and low by 10,000,000,000.
-pub fn in_parts(negative: bool, high: u64, low: u64) {
+pub fn in_parts(rt: &impl Print, negative: bool, high: u64, low: u64) -> io::Result<()> {
     if negative {
-        bytes(b"-");
+        bytes(rt, b"-")?;
     }
     if high == 0 {
-        number(low);
+        number(rt, low)
     } else {
-        number(high);
-        padded(low, 10);
+        number(rt, high)?;
+        padded(rt, low, 10)
     }
 }
