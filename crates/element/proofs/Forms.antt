@@ -64,19 +64,9 @@ unhashed index h (b ∷ text) fine e =
     let z : ◌≡◌ {A = ℕ} 0 1 = cc in
     omega arith
 
--- The index is none of the first numbers.
-abbrev pub Avoids : ℕ → ℕ → Type 0
-Avoids index zero = Unit
-Avoids index (suc n) = Avoids index n × (index ≡ n → ⊥)
-
--- An index that is none of the first n numbers is n or more.
-avoids_past : (index n : ℕ) → Avoids index n → n ≤ index
-avoids_past index zero a = omega arith
-avoids_past index (suc n) a = omega (arith, avoids_past index n a.0, a.1)
-
 -- Past the elements there is no form.
-pub form_past : (index : ℕ) → Avoids index elements → Unknown ≡ form_of index
-form_past index a = sym (get_or-eq_default forms Unknown {n = index} (avoids_past index elements a))
+pub form_past : (index : ℕ) → elements ≤ index → Unknown ≡ form_of index
+form_past index past = sym (get_or-eq_default forms Unknown {n = index} past)
 
 -- The numbers of the elements with a value.
 abbrev pub valued : List ℕ

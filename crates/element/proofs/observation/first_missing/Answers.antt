@@ -1,0 +1,31 @@
+-- `element::observation::first_missing` meets its contract. The invariant: what is left of the numbers decides.
+use Prim.Native.Nat.{◌-◌, zero-le}
+use mathlib.Core.Path.{◌∙◌, refl, sym}
+use native.Mathlib.Omega.{arith}
+use Rattle.element.proofs.Observations.{missing_end, missing_no, missing_yes}
+use Rattle.element.specs.Observation.{is_in}
+use Rattle.element.proofs.observation.first_missing.Goals as goal
+
+pub loop-i-init : goal.loop-i-init
+loop-i-init c = (zero-le, refl)
+
+pub loop-i-preserved : goal.loop-i-preserved
+loop-i-preserved c =
+    let loop = c.loop-i in
+    let args = c.args in
+    let loop-test = c.loop-i-test in
+    (omega arith, loop.invariant.1 ∙ missing_yes args.numbers.now (is_in args.present) loop.i loop-test.true (sym c.is_in.ensures ∙ c.if-is_in.true))
+
+pub returns-else-is_in : goal.returns-else-is_in
+returns-else-is_in c =
+    let loop = c.loop-i in
+    let args = c.args in
+    let loop-test = c.loop-i-test in
+    let is-in = c.is_in in
+    sym (loop.invariant.1 ∙ missing_no args.numbers.now (is_in args.present) loop.i loop-test.true (sym is-in.ensures ∙ c.if-is_in.false))
+
+pub returns : goal.returns
+returns c =
+    let loop = c.loop-i in
+    let args = c.args in
+    sym (loop.invariant.1 ∙ missing_end args.numbers.now (is_in args.present) loop.i c.loop-i-test.false)

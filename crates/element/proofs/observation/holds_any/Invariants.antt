@@ -1,0 +1,12 @@
+-- `element::observation::holds_any` meets its contract. The invariant: what is left of the numbers decides.
+use Prim.Native.Nat.{◌-◌, ◌≤◌}
+use lib.ListN.{drop, length}
+use mathlib.Core.Path.{◌≡◌}
+use Rattle.element.specs.Observation.{holds_any, is_in}
+use Rattle.element.proofs.observation.holds_any.Given as goal
+
+abbrev pub invariant-loop-i : goal.invariant-loop-i
+invariant-loop-i l = (l.i ≤ length l.numbers) × (holds_any l.numbers (is_in l.present) ≡ holds_any (drop l.i l.numbers) (is_in l.present))
+
+abbrev pub decreases-loop-i : goal.decreases-loop-i
+decreases-loop-i l = length l.numbers - l.i

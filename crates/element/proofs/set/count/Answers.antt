@@ -1,0 +1,11 @@
+-- `element::set::count` meets its contract.
+use mathlib.Core.Path.{refl}
+use native.Mathlib.Omega.{arith}
+use lib.Count.{ones-le}
+use Rattle.element.proofs.set.count.Goals as goal
+
+pub overflow_cast-result : goal.overflow_cast-result
+overflow_cast-result c = omega (arith, ones-le 64 c.args.set c.ranges.set.fits)
+
+pub returns : goal.returns
+returns c = (refl, ones-le 64 c.args.set c.ranges.set.fits)

@@ -1,0 +1,39 @@
+-- `element::set::name_bytes_in` meets its contract.
+use mathlib.Core.Path.{◌∙◌}
+use native.Mathlib.Omega.{arith}
+use lib.Count.{trailing_le}
+use Prim.Native.Nat.{◌-◌}
+use Rattle.element.proofs.Sets.{adds_none, names_done, names_past, name_more, name_fits, left_less, name_lengths_length}
+use Rattle.element.proofs.set.name_bytes_in.Goals as goal
+
+pub loop-left-init : goal.loop-left-init
+loop-left-init c = (adds_none _ _, c.ranges.set.fits)
+
+pub overflow_cast-skip : goal.overflow_cast-skip
+overflow_cast-skip c = record { fits = omega (arith, trailing_le 64 c.loop-left.left) }
+
+pub overflow_add-next : goal.overflow_add-next
+overflow_add-next c = record { fits = omega (arith, trailing_le 64 c.loop-left.left, c.loop-left.invariant.0.within, name_lengths_length) }
+
+pub returns-then-next-ge-ELEMENTS : goal.returns-then-next-ge-ELEMENTS
+returns-then-next-ge-ELEMENTS c = names_past c.loop-left.invariant.0 c.if-next-ge-ELEMENTS.true
+
+pub overflow_add-sum : goal.overflow_add-sum
+overflow_add-sum c = name_fits c.loop-left.invariant.0 c.loop-left-test.true c.loop-left.invariant.1 c.if-next-ge-ELEMENTS.false _ (c.wide-sum.ensures ∙ c.length_in.ensures)
+
+pub overflow_shr-left : goal.overflow_shr-left
+overflow_shr-left c = omega (arith, c.if-next-ge-ELEMENTS.false)
+
+pub loop-left-smaller : goal.loop-left-smaller
+loop-left-smaller c = omega (arith, c.if-next-ge-ELEMENTS.false)
+
+pub loop-left-preserved : goal.loop-left-preserved
+loop-left-preserved c =
+    let inv = c.loop-left.invariant in
+    let length_is = c.wide-sum.ensures ∙ c.length_in.ensures in (
+      name_more inv.0 c.loop-left-test.true inv.1 c.if-next-ge-ELEMENTS.false _ length_is,
+      left_less inv.0 c.loop-left-test.true inv.1 c.if-next-ge-ELEMENTS.false _ length_is,
+    )
+
+pub returns : goal.returns
+returns c = names_done c.loop-left.invariant.0 c.loop-left-test.false
