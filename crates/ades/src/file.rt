@@ -11,7 +11,7 @@ pub(crate) const SPACE: usize = TEXT_LIMIT + 1;
 
 // Reads a file, or standard input for `-`, into the space, as much as there is room for; a failure has been told.
 pub(crate) fn read(rt: &impl Runtime, name: &[u8], space: &mut [u8]) -> io::Result<Input> {
-    let input = files::read(name, space);
+    let input = files::read(rt, name, space);
     if let Input::Failed = input {
         error::tell_about(rt, b"cannot read ", name)?;
     }
@@ -20,7 +20,7 @@ pub(crate) fn read(rt: &impl Runtime, name: &[u8], space: &mut [u8]) -> io::Resu
 
 // Writes a text to a file; false where it failed, which has been told.
 pub(crate) fn write(rt: &impl Runtime, name: &[u8], text: &[u8]) -> io::Result<bool> {
-    match files::write(name, text) {
+    match files::write(rt, name, text) {
         Output::Written => Ok(true),
         output => {
             tell(rt, output, name)?;
