@@ -40,18 +40,18 @@ or_bit a b e =
     ∙ digits_mod (bit_or (a / 2 ^ e / 2) (b / 2 ^ e / 2)) (max_small (a / 2 ^ e % 2) (b / 2 ^ e % 2) (omega arith) (omega arith))
 
 -- And so for tests.
-bit_or : (p q : Bool) → bit (p || q) ≡ max (bit p) (bit q)
-bit_or true true = refl
-bit_or true false = refl
-bit_or false true = refl
-bit_or false false = refl
+bit_or_lem : (p q : Bool) → bit (p || q) ≡ max (bit p) (bit q)
+bit_or_lem true true = refl
+bit_or_lem true false = refl
+bit_or_lem false true = refl
+bit_or_lem false false = refl
 
 -- Bit e of the union of the rows' sets says whether the element of index e is present in some row.
 union_bits : (u : ℕ) (rows : List Observation) (e : ℕ) → union u (map as_row rows) / 2 ^ e % 2 ≡ max (u / 2 ^ e % 2) (bit (is_anywhere rows e))
 unfolding union is_anywhere
 union_bits u [] e = omega arith
 union_bits u (o ∷ os) e =
-    omega (arith, union_bits (bit_or u (set_of o)) os e, or_bit u (set_of o) e, has_set o e, bit_or (is_present (get_or o e [])) (is_anywhere os e))
+    omega (arith, union_bits (bit_or u (set_of o)) os e, or_bit u (set_of o) e, has_set o e, bit_or_lem (is_present (get_or o e [])) (is_anywhere os e))
 
 -- The union has a bit for each element at most.
 union_below : (u : ℕ) (rows : List Observation) → u < 2 ^ elements → AllRight rows → union u (map as_row rows) < 2 ^ elements

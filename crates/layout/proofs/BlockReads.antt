@@ -1,13 +1,13 @@
 -- A written block reads back as its rows.
 use Prim.Native.Nat.{ℕ, zero, suc, ◌≤◌, ◌<◌, ◌+◌}
-use mathlib.Core.Path.{◌≡◌, refl, sym, ◌∙◌}
+use mathlib.Core.Path.{◌≡◌, refl, ap, sym, subst, ◌∙◌}
 use mathlib.Core.Bool.{Bool, true, false, not, ◌||◌, true≢false, beq}
 use mathlib.Core.List.{List, [], ◌∷◌, ◌++◌, append_assoc, append-nil}
 use native.Mathlib.Omega.{arith}
 use lib.Dec.{eqb, ltb}
 use lib.ListN.{length, take, get_or, replicate, length-map, length-replicate, get_or-eq_default}
 use lib.Seq.{get_or-set_other, get_or-set_same, ext_get_or}
-use borrow.Author.Tests.{eq-eqb, ne_eqb, eqb-true, eqb-false, lt-ltb, ltb-true, ltb-false, not_true}
+use borrow.Author.Tests.{eq-eqb, ne_eqb, eqb-true, eqb-false, lt-ltb, ltb-true, ltb-false, not-true}
 use Rattle.text.specs.Part.{same}
 use Rattle.text.specs.Lines.{bar, line, lines, trim}
 use Rattle.text.proofs.Bools.{bools}
@@ -42,7 +42,7 @@ unfolding same
 name_trim c h = same_is _ _ (every_name (λ name. same (trim name) name) tt c h)
 
 name_unhashed : (c : ℕ) → c < elements → get_or (name_of c) 0 0 ≡ 35 → ⊥
-name_unhashed c h = eqb-false _ _ (not_true _ (every_name (λ name. not (eqb (get_or name 0 0) 35)) tt c h))
+name_unhashed c h = eqb-false _ _ (not-true _ (every_name (λ name. not (eqb (get_or name 0 0) 35)) tt c h))
 
 -- Every column is an element.
 abbrev Known : List ℕ → Type 0
@@ -300,8 +300,8 @@ block_lines : (c : ℕ) (cs : List ℕ) (o : Observation) (os : List Observation
     ≡ line version_line (line (barred (names_at (c ∷ cs))) (line (barred (values_at (c ∷ cs) o)) (lines (data_lines (c ∷ cs) os))))
 unfolding block_text line_of barred data_lines
 block_lines c cs o os q h r =
-    rw (
-      q,
+    ap (λ (columns : List ℕ). lines (line_of (version_line ∷ []) ++ (line_of (names_at columns) ++ data_lines columns (o ∷ os)))) q
+    ∙ rw (
       lines_line_of (names_at (c ∷ cs)) (data_lines (c ∷ cs) (o ∷ os)) (barred_printable (names_at (c ∷ cs)) (names_clean (c ∷ cs) h)),
       lines_line_of (values_at (c ∷ cs) o) (data_lines (c ∷ cs) os) (barred_printable (values_at (c ∷ cs) o) (values_clean o r (c ∷ cs))),
     )
@@ -325,7 +325,7 @@ pub block_reads : (o : Observation) (os : List Observation) → AllRight (o ∷ 
     → length (block_text (o ∷ os)) ≤ text_limit → read (block_text (o ∷ os)) ≡ accepted (o ∷ os)
 block_reads o os r a few short =
     let f = first_column o os r.0 in
-    let u : AllUnder (f.0 ∷ f.1) (o ∷ os) = rw f.3 at (block_under (o ∷ os) r) in
+    let u : AllUnder (f.0 ∷ f.1) (o ∷ os) = subst (λ (columns : List ℕ). AllUnder columns (o ∷ os)) f.3 (block_under (o ∷ os) r) in
     let d : is_distinct (f.0 ∷ f.1) ≡ true = rw f.3 at (columns_distinct (o ∷ os)) in
     let b : Known (f.0 ∷ f.1) = rw f.3 at (columns_below (o ∷ os)) in
     read_within (block_text (o ∷ os)) (o ∷ os) short

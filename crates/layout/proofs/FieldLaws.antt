@@ -6,7 +6,7 @@ use mathlib.Core.List.{List, [], ◌∷◌, ◌++◌, map, append_assoc}
 use native.Mathlib.Omega.{arith}
 use lib.Dec.{eqb}
 use lib.ListN.{length, length-append}
-use borrow.Author.Tests.{eqb-true, not_true}
+use borrow.Author.Tests.{eqb-true, not-true}
 use Rattle.text.specs.Lines.{bar, line_feed, is_printable, printable, line, lines, fields, into, drop_lead, drop_trail, before, trim}
 use Rattle.text.proofs.Bools.{bools}
 use Rattle.text.proofs.LineLaws.{fields_first}
@@ -126,7 +126,7 @@ clean_printable (b ∷ t) h =
     rw (and_first (is_printable b) (not (eqb b bar)) (clean_head b t h)) (clean_printable t (clean_tail b t h))
 
 clean_unbarred : (b : ℕ) (t : List ℕ) → is_clean (b ∷ t) ≡ true → eqb b bar ≡ false
-clean_unbarred b t h = not_true (eqb b bar) (and_second (is_printable b) (not (eqb b bar)) (clean_head b t h))
+clean_unbarred b t h = not-true (eqb b bar) (and_second (is_printable b) (not (eqb b bar)) (clean_head b t h))
 
 -- Fields and their line.
 

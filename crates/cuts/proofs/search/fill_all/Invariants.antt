@@ -1,0 +1,14 @@
+-- `cuts::search::fill_all` meets its contract. The invariant: the costs and the first blocks are filled in from the run i on, whose tail is known.
+use Prim.Native.Nat.{◌≤◌, ◌+◌}
+use mathlib.Core.Path.{◌≡◌}
+use lib.ListN.{length, drop}
+use Rattle.cuts.specs.Runs.{runs_of}
+use Rattle.cuts.specs.Block.{all_more}
+use Rattle.cuts.specs.Look.{Filled, TailIs}
+use Rattle.cuts.proofs.search.fill_all.Given as goal
+
+abbrev pub invariant-loop-i : goal.invariant-loop-i
+invariant-loop-i l = (l.n ≡ length l.sets) × (l.i ≤ length l.sets) × Filled all_more (runs_of l.sets l.sizes l.counts) l.i l.costs l.firsts × TailIs (drop l.i (runs_of l.sets l.sizes l.counts)) (drop (l.i + 1) l.costs) l.tail
+
+abbrev pub decreases-loop-i : goal.decreases-loop-i
+decreases-loop-i l = l.i

@@ -1,0 +1,12 @@
+-- `pack::short::is_short` meets its contract.
+use borrow.Author.Tests.{le-leb, lt-leb}
+use Rattle.pack.specs.Inner.{is_short}
+use Rattle.pack.proofs.short.is_short.Goals as goal
+
+pub returns-then-report-le-SHORT_TEXT : goal.returns-then-report-le-SHORT_TEXT
+unfolding is_short
+returns-then-report-le-SHORT_TEXT c = rw (le-leb _ _ c.if-report-le-SHORT_TEXT.true, c.line_count.ensures)
+
+pub returns : goal.returns
+unfolding is_short
+returns c = rw (lt-leb _ _ c.if-report-le-SHORT_TEXT.false)
