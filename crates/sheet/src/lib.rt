@@ -1,5 +1,7 @@
 // The auditor's sheet: what is told of a report, of its packed report and of why that one is as long as it is. What the answers are, the
 // crates below promise; here they are printed beside the theorems that hold them.
+#![tactic(auto)]
+
 mod costing;
 mod length;
 mod sameness;
