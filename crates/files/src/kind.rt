@@ -9,7 +9,7 @@ use std::{fs, io, str};
 use text::lines::up_to;
 
 // One more than the bytes of the longest path.
-const PATH_MAX: usize = 4096;
+pub(crate) const PATH_MAX: usize = 4096;
 
 // The system's numbers for three faults of a name: it has a byte 0, it is too long, it is no UTF-8 text.
 const EINVAL: i32 = 22;

@@ -4,7 +4,7 @@ ghost use Rattle.std.proofs.Math.Option.{none};
 ghost use Rattle.files.specs.Answers.{by_name, longest};
 ghost use Rattle.files.specs.Part.{part_name};
 
-use crate::kind::{Kind, path};
+use crate::kind::{Kind, PATH_MAX, path};
 use crate::{Output, kind, telling};
 use std::fs::{OpenFile, OpenOptions};
 use std::io::{ErrorKind, Write};
@@ -12,9 +12,6 @@ use std::rt::Files;
 use std::{fs, io};
 use text::output::put;
 use text::part::front;
-
-// The bytes of the space for the name under which an output is written at first.
-const SPACE: usize = 4096;
 
 // Writes a text to a file that is regular or not there; another is left as it is.
 pub(crate) fn replace(rt: &(impl Files + Eprint + Alloc), name: &[u8], text: &[u8]) -> Output
@@ -34,7 +31,7 @@ fn write_part(rt: &(impl Files + Eprint + Alloc), name: &[u8], text: &[u8]) -> O
     requires { length name.now ≤ longest }
     ensures { by_name result ≡ none }
 {
-    let mut space = [0u8; SPACE];
+    let mut space = [0u8; PATH_MAX];
     let length = put_part_name(name, &mut space);
     write_by_way_of(rt, front(&space, length), name, text)
 }
