@@ -1,5 +1,6 @@
 // What kind of file a name stands for.
-ghost use Rattle.std.specs.Prelude.{◌≡◌, true, IfOk};
+ghost use Rattle.std.specs.Prelude.{◌≡◌, ◌≢◌, ◌↔◌, true, IfOk, OnErr};
+ghost use Rattle.std.specs.Fs.{file_type, IsFile};
 ghost use Rattle.files.specs.Path.{is_path};
 
 use std::fs::Metadata;
@@ -45,7 +46,10 @@ fn is_path(name: &[u8]) -> bool
 }
 
 // The kind that was found of the file of a name.
-fn kind_of(found: io::Result<Metadata>, name: &[u8]) -> Kind {
+fn kind_of(found: io::Result<Metadata>, name: &[u8]) -> Kind
+    ensures found { IfOk found (λ m. (result ≡ Kind.Regular) ↔ IsFile (file_type m)) }
+    ensures unseen { OnErr found (result ≢ Kind.Regular) }
+{
     match found {
         Ok(found) => mode(&found),
         Err(error) => unseen(error, name),
@@ -53,7 +57,9 @@ fn kind_of(found: io::Result<Metadata>, name: &[u8]) -> Kind {
 }
 
 // The kind of a file of the name that could not be looked at. No file has an empty name, and none can be given it.
-fn unseen(error: io::Error, name: &[u8]) -> Kind {
+fn unseen(error: io::Error, name: &[u8]) -> Kind
+    ensures { result ≢ Kind.Regular }
+{
     let missing = error.kind() == ErrorKind::NotFound;
     if missing & (0 < name.len()) {
         Kind::Missing
@@ -86,7 +92,9 @@ fn no_path(name: &[u8]) -> io::Error {
 }
 
 // The kind that the mode of a file says.
-fn mode(found: &Metadata) -> Kind {
+fn mode(found: &Metadata) -> Kind
+    ensures { (result ≡ Kind.Regular) ↔ IsFile (file_type found.now) }
+{
     if found.is_file() {
         Kind::Regular
     } else {
