@@ -4,24 +4,25 @@ use crate::status::{DONE, FAILED};
 use element::ELEMENTS;
 use explain::refusals::REFUSALS;
 use explain::{elements, names, refusals};
+use std::io;
 use words::number::Number;
 use words::print;
 
 // Prints the rule of an element, by its name or its number.
-pub(crate) fn element(word: &[u8]) -> usize {
+pub(crate) fn element(rt: &impl Print, word: &[u8]) -> io::Result<usize> {
     let number = number_of(word);
     if (0 < number) & (number <= ELEMENTS) {
-        print::bytes(b"element ");
-        print::number(number as u64);
-        print::bytes(b" ");
-        elements::print_name(number);
-        print::line_end();
-        elements::print_all(number);
-        return DONE;
+        print::bytes(rt, b"element ")?;
+        print::number(rt, number as u64)?;
+        print::bytes(rt, b" ")?;
+        elements::print_name(rt, number)?;
+        print::line_end(rt)?;
+        elements::print_all(rt, number)?;
+        return Ok(DONE);
     }
-    error::tell_about(b"no element is called ", word);
-    names::print_hint(word);
-    FAILED
+    error::tell_about(rt, b"no element is called ", word)?;
+    names::print_hint(rt, word)?;
+    Ok(FAILED)
 }
 
 // The number of an element, by its name or its number; 0 or more than there are where there is none.
@@ -33,16 +34,16 @@ fn number_of(word: &[u8]) -> usize {
 }
 
 // Prints the rule of a refusal, by its number.
-pub(crate) fn refusal(word: &[u8]) -> usize {
+pub(crate) fn refusal(rt: &impl Print, word: &[u8]) -> io::Result<usize> {
     if let Number::Is(number) = words::number::read(word) {
         if (0 < number) & (number <= REFUSALS as u64) {
-            print::bytes(b"refusal ");
-            print::number(number);
-            print::line_end();
-            refusals::print_all(number as usize);
-            return DONE;
+            print::bytes(rt, b"refusal ")?;
+            print::number(rt, number)?;
+            print::line_end(rt)?;
+            refusals::print_all(rt, number as usize)?;
+            return Ok(DONE);
         }
     }
-    error::tell_about(b"no refusal has the number ", word);
-    FAILED
+    error::tell_about(rt, b"no refusal has the number ", word)?;
+    Ok(FAILED)
 }

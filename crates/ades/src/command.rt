@@ -3,6 +3,8 @@ ghost use Rattle.std.specs.Prelude.{◌≡◌, ◌≤◌, length};
 ghost use Rattle.inspect.specs.Part.{part_of, marks_in};
 
 use inspect::part;
+use std::env::{Env, FillError};
+use std::io;
 use text::part::tail;
 use words::print;
 
@@ -17,36 +19,36 @@ pub(crate) enum Gathered {
 }
 
 // Puts the program's arguments into the space as a command.
-pub(crate) fn gather(space: &mut [u8]) -> Gathered {
-    let count = os::arg_count();
+pub(crate) fn gather(rt: &impl Env, space: &mut [u8]) -> Gathered {
     let mut at: usize = 0;
-    let mut i: usize = 1;
-    while i < count {
-        let end = put_argument(i, at, space);
-        if end == at {
-            return Gathered::TooLong;
+    for number in 1..usize::MAX {
+        match put_argument(rt, number, at, space) {
+            Ok(end) => at = end,
+            Err(FillError::NotPresent) => break,
+            Err(FillError::TooLong) => return Gathered::TooLong,
         }
-        at = end;
-        i += 1;
     }
     Gathered::Length(less_one(at))
 }
 
-// Puts an argument and the byte after it into the space at a place, and says where they end; the place itself where they do not fit.
-fn put_argument(number: usize, at: usize, space: &mut [u8]) -> usize {
-    if space.len() <= at {
-        return at;
+// Puts an argument and the byte after it into the space at a place, and says where they end, or that there is no such argument or that
+// they do not fit.
+fn put_argument(
+    rt: &impl Env,
+    number: usize,
+    at: usize,
+    space: &mut [u8],
+) -> Result<usize, FillError> {
+    if space.len() < at {
+        return Err(FillError::TooLong);
     }
-    let length = os::arg(number, &mut space[at..]);
-    if os::errno() != 0 {
-        return at;
-    }
+    let length = rt.arg(number, &mut space[at..])?;
     let end = at + length;
     if space.len() <= end {
-        return at;
+        return Err(FillError::TooLong);
     }
     space[end] = PARTING;
-    end + 1
+    Ok(end + 1)
 }
 
 // One less; 0 for 0.
@@ -88,15 +90,15 @@ fn parted(byte: u8) -> u8 {
 }
 
 // Prints a command as it was given.
-pub(crate) fn echo(command: &[u8]) {
+pub(crate) fn echo(rt: &impl Print, command: &[u8]) -> io::Result<()> {
     let words = arguments(command);
     let mut k: usize = 0;
-    print::bytes(b"ades ");
-    print::bytes(word(command, 0));
+    print::bytes(rt, b"ades ")?;
+    print::bytes(rt, word(command, 0))?;
     while k < words {
         k += 1;
-        print::bytes(b" ");
-        print::bytes(word(command, k));
+        print::bytes(rt, b" ")?;
+        print::bytes(rt, word(command, k))?;
     }
-    print::line_end();
+    print::line_end(rt)
 }

@@ -1,5 +1,6 @@
 // The commands: one table, from which they are found, their usage is told and the help is printed.
 use inspect::{part, table};
+use std::io;
 use text::part::front;
 use words::number::Number;
 use words::print;
@@ -103,29 +104,30 @@ fn number_in(row: usize, column: usize) -> usize {
 }
 
 // Prints how a row's command is used.
-pub(crate) fn print_usage(row: usize) {
-    print::bytes(b"ades ");
-    print::bytes(table::entry(&COMMANDS, row, NAME));
-    print::bytes(b" ");
-    print::bytes(table::entry(&COMMANDS, row, WORDS));
+pub(crate) fn print_usage(rt: &impl Print, row: usize) -> io::Result<()> {
+    print::bytes(rt, b"ades ")?;
+    print::bytes(rt, table::entry(&COMMANDS, row, NAME))?;
+    print::bytes(rt, b" ")?;
+    print::bytes(rt, table::entry(&COMMANDS, row, WORDS))
 }
 
 // Prints every command with what it answers.
-pub(crate) fn print_all() {
+pub(crate) fn print_all(rt: &impl Print) -> io::Result<()> {
     let rows = part::count(&COMMANDS, b'\n');
     let mut row: usize = 0;
     while row < rows {
-        print_row(row);
+        print_row(rt, row)?;
         row += 1;
     }
+    Ok(())
 }
 
 // Prints how a row's command is used, and what it answers.
-fn print_row(row: usize) {
-    print_usage(row);
-    print_blanks(used(row));
-    print::bytes(table::entry(&COMMANDS, row, ANSWERS));
-    print::line_end();
+fn print_row(rt: &impl Print, row: usize) -> io::Result<()> {
+    print_usage(rt, row)?;
+    print_blanks(rt, used(row))?;
+    print::bytes(rt, table::entry(&COMMANDS, row, ANSWERS))?;
+    print::line_end(rt)
 }
 
 // How many bytes the usage of a row's command has.
@@ -142,8 +144,12 @@ fn used(row: usize) -> usize {
 }
 
 // Prints blanks after so many bytes, up to the indent.
-fn print_blanks(bytes: usize) {
+fn print_blanks(rt: &impl Print, bytes: usize) -> io::Result<()> {
     if bytes < INDENT {
-        print::bytes(front(b"                                        ", INDENT - bytes));
+        print::bytes(
+            rt,
+            front(b"                                        ", INDENT - bytes),
+        )?;
     }
+    Ok(())
 }

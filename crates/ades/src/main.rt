@@ -21,12 +21,16 @@ mod valuing;
 mod version;
 
 use command::Gathered;
+use std::io;
 use text::part::front;
 
-fn main() {
-    let mut space = io::large_buffer();
-    match command::gather(&mut space) {
-        Gathered::Length(length) => script::start(front(&space, length)),
-        Gathered::TooLong => error::tell(b"the words of the command are too long"),
+// The room for the words of a command.
+const SPACE: usize = 65536;
+
+fn main(rt: HostRuntime) -> io::Result<()> {
+    let mut space = [0u8; SPACE];
+    match command::gather(&rt, &mut space) {
+        Gathered::Length(length) => script::start(&rt, front(&space, length)),
+        Gathered::TooLong => error::tell(&rt, b"the words of the command are too long"),
     }
 }

@@ -9,45 +9,53 @@ use night::RECORD_SIZE;
 use night::answer::{Listed, Written};
 use report::ROW_LIMIT;
 use report::answer::Checked;
+use std::io;
+use std::rt::Runtime;
 use text::part::same;
 
 // The most bytes of a list.
 const LONGEST_LIST: usize = RECORD_SIZE * ROW_LIMIT;
 
 // Writes the night list of the report that a command names to the list that it names, which may not have the report's name.
-pub(crate) fn obey(command: &[u8], report: &[u8]) -> usize {
+pub(crate) fn obey(rt: &impl Runtime, command: &[u8], report: &[u8]) -> io::Result<usize> {
     let name = word(command, 2);
     if same(word(command, 1), name) & !same(name, b"-") {
-        error::tell(b"the list would replace its report");
-        return FAILED;
+        error::tell(rt, b"the list would replace its report")?;
+        return Ok(FAILED);
     }
-    write_into(name, report)
+    write_into(rt, name, report)
 }
 
 // Writes the night list of a report to a file, and tells how long it is; or tells the report's refusal, and writes nothing.
-fn write_into(name: &[u8], report: &[u8]) -> usize {
+fn write_into(rt: &impl Runtime, name: &[u8], report: &[u8]) -> io::Result<usize> {
     match report::check(report) {
-        Checked::Accepted(count) => write_records(name, report, count),
+        Checked::Accepted(count) => write_records(rt, name, report, count),
         Checked::Refused(refusal) => {
-            explain::refused(report, refusal);
-            REFUSED
+            explain::refused(rt, report, refusal)?;
+            Ok(REFUSED)
         }
     }
 }
 
 // Writes the records of so many observations to a file.
-fn write_records(name: &[u8], report: &[u8], count: usize) -> usize {
+fn write_records(rt: &impl Runtime, name: &[u8], report: &[u8], count: usize) -> io::Result<usize> {
     let mut space = [0u8; LONGEST_LIST];
     let length = bytes_of(count);
-    write_list(name, report, count, &mut space[..length])
+    write_list(rt, name, report, count, &mut space[..length])
 }
 
 // Writes the records of so many observations into the list, and the list to a file.
-fn write_list(name: &[u8], report: &[u8], count: usize, list: &mut [u8]) -> usize {
-    if fill(report, count, list) {
-        return keep(name, list, count);
+fn write_list(
+    rt: &impl Runtime,
+    name: &[u8],
+    report: &[u8],
+    count: usize,
+    list: &mut [u8],
+) -> io::Result<usize> {
+    if fill(rt, report, count, list)? {
+        return keep(rt, name, list, count);
     }
-    REFUSED
+    Ok(REFUSED)
 }
 
 // How many bytes so many records have, at most as many as a list.
@@ -62,38 +70,38 @@ fn bytes_of(records: usize) -> usize
 }
 
 // Writes the records of so many observations into the list, each by its own call; false where one is refused, which has been told.
-fn fill(report: &[u8], count: usize, list: &mut [u8]) -> bool {
+fn fill(rt: &impl Print, report: &[u8], count: usize, list: &mut [u8]) -> io::Result<bool> {
     let mut observation: usize = 0;
     while observation < count {
         observation += 1;
         if let Written::Refused(refusal) = night::write(report, observation, list) {
-            records::print_unwritten(report, observation, refusal);
-            return false;
+            records::print_unwritten(rt, report, observation, refusal)?;
+            return Ok(false);
         }
     }
-    true
+    Ok(true)
 }
 
 // Writes a list to a file, and tells how long it is.
-fn keep(name: &[u8], list: &[u8], count: usize) -> usize {
-    if file::write(name, list) {
-        records::print_written(count, list.len());
-        DONE
+fn keep(rt: &impl Runtime, name: &[u8], list: &[u8], count: usize) -> io::Result<usize> {
+    if file::write(rt, name, list)? {
+        records::print_written(rt, count, list.len())?;
+        Ok(DONE)
     } else {
-        FAILED
+        Ok(FAILED)
     }
 }
 
 // Prints the records of a list, or its first bad one.
-pub(crate) fn tell(list: &[u8]) -> usize {
+pub(crate) fn tell(rt: &impl Print, list: &[u8]) -> io::Result<usize> {
     match night::check(list) {
         Listed::Records(count) => {
-            records::print_records(list, count);
-            DONE
+            records::print_records(rt, list, count)?;
+            Ok(DONE)
         }
         Listed::Refused(refusal) => {
-            records::print_refused(list, refusal);
-            REFUSED
+            records::print_refused(rt, list, refusal)?;
+            Ok(REFUSED)
         }
     }
 }

@@ -4,29 +4,30 @@ use crate::request::Request;
 use crate::status::{DONE, FAILED, REFUSED};
 use answers::shown;
 use report::answer::Showing;
+use std::io;
 
 // Obeys `show FILE OBSERVATION ELEMENT` of the report that the file holds.
-pub(crate) fn obey(command: &[u8], report: &[u8]) -> usize {
-    match request::asked(command) {
-        Request::Of(observation, element) => show(report, observation, element),
-        Request::Wrong => FAILED,
+pub(crate) fn obey(rt: &impl Print, command: &[u8], report: &[u8]) -> io::Result<usize> {
+    match request::asked(rt, command)? {
+        Request::Of(observation, element) => show(rt, report, observation, element),
+        Request::Wrong => Ok(FAILED),
     }
 }
 
 // Prints the value, or why nothing is shown.
-fn show(report: &[u8], observation: usize, element: usize) -> usize {
+fn show(rt: &impl Print, report: &[u8], observation: usize, element: usize) -> io::Result<usize> {
     match report::showing(report, observation, element) {
         Showing::At(start, length) => {
-            shown::print_shown(report, observation, element, start, length);
-            DONE
+            shown::print_shown(rt, report, observation, element, start, length)?;
+            Ok(DONE)
         }
         Showing::Absent => {
-            shown::print_absent(observation, element);
-            DONE
+            shown::print_absent(rt, observation, element)?;
+            Ok(DONE)
         }
         Showing::Refused(refusal) => {
-            explain::refused(report, refusal);
-            REFUSED
+            explain::refused(rt, report, refusal)?;
+            Ok(REFUSED)
         }
     }
 }

@@ -5,6 +5,8 @@ use crate::status::{FAILED, REFUSED};
 use files::Input;
 use report::ROW_LIMIT;
 use report::answer::Checked;
+use std::io;
+use std::rt::Runtime;
 use text::part::front;
 use words::print;
 
@@ -19,72 +21,87 @@ pub(crate) enum Joined {
 }
 
 // Reads the files into the space, one after the other, and notes where each ends; each is a report by itself, and so are all together.
-pub(crate) fn read(command: &[u8], space: &mut [u8], ends: &mut [usize]) -> Joined {
+pub(crate) fn read(
+    rt: &impl Runtime,
+    command: &[u8],
+    space: &mut [u8],
+    ends: &mut [usize],
+) -> io::Result<Joined> {
     if NAMES < arguments(command) {
-        print::between(b"error too many files: at most ", ROW_LIMIT as u64, b"\n");
-        return Joined::Failed(FAILED);
+        print::between(
+            rt,
+            b"error too many files: at most ",
+            ROW_LIMIT as u64,
+            b"\n",
+        )?;
+        return Ok(Joined::Failed(FAILED));
     }
-    let joined = read_files(command, space, ends);
+    let joined = read_files(rt, command, space, ends)?;
     if let Joined::Till(length) = joined {
-        if is_report(front(space, length), b"the files together, as one text") {
-            return joined;
+        if is_report(rt, front(space, length), b"the files together, as one text")? {
+            return Ok(joined);
         }
-        return Joined::Failed(REFUSED);
+        return Ok(Joined::Failed(REFUSED));
     }
-    joined
+    Ok(joined)
 }
 
 // Reads the files into the space, one after the other, until it is full, and notes where each ends.
-fn read_files(command: &[u8], space: &mut [u8], ends: &mut [usize]) -> Joined {
+fn read_files(
+    rt: &impl Runtime,
+    command: &[u8],
+    space: &mut [u8],
+    ends: &mut [usize],
+) -> io::Result<Joined> {
     let files = arguments(command);
     let mut at: usize = 0;
     let mut k: usize = 1;
     while k < files {
-        match read_one(word(command, k + 1), at, space) {
+        match read_one(rt, word(command, k + 1), at, space)? {
             Joined::Till(till) => {
                 note(ends, k, till);
                 at = till;
             }
             Joined::Failed(status) => {
-                return Joined::Failed(status);
+                return Ok(Joined::Failed(status));
             }
         }
         k += 1;
     }
-    Joined::Till(at)
+    Ok(Joined::Till(at))
 }
 
 // Reads a file into the space from a place on, and says where it ends; a failure where it is no report. One that fills the space is
 // not looked at: it is too long together with those before it.
-fn read_one(name: &[u8], at: usize, space: &mut [u8]) -> Joined {
+fn read_one(rt: &impl Runtime, name: &[u8], at: usize, space: &mut [u8]) -> io::Result<Joined> {
     if space.len() < at {
-        return Joined::Till(at);
+        return Ok(Joined::Till(at));
     }
-    let input = file::read(name, &mut space[at..]);
+    let input = file::read(rt, name, &mut space[at..])?;
     let Input::Length(length) = input else {
-        return Joined::Failed(FAILED);
+        return Ok(Joined::Failed(FAILED));
     };
     if space.len() - at <= length {
-        return Joined::Till(space.len());
+        return Ok(Joined::Till(space.len()));
     }
     let till = at + length;
-    if is_report(&space[at..till], name) {
-        Joined::Till(till)
+    if is_report(rt, &space[at..till], name)? {
+        Ok(Joined::Till(till))
     } else {
-        Joined::Failed(REFUSED)
+        Ok(Joined::Failed(REFUSED))
     }
 }
 
 // Whether a text is a report; where it is none its refusal is told, and whose fault it is.
-fn is_report(text: &[u8], name: &[u8]) -> bool {
+fn is_report(rt: &impl Print, text: &[u8], name: &[u8]) -> io::Result<bool> {
     match report::check(text) {
-        Checked::Accepted(_) => true,
+        Checked::Accepted(_) => Ok(true),
         Checked::Refused(refusal) => {
-            explain::refused(text, refusal);
-            print::bytes(b"The fault is in ");
-            print::bytes(name);
-            print::bytes(b".\n");
-            false
+            explain::refused(rt, text, refusal)?;
+            print::bytes(rt, b"The fault is in ")?;
+            print::bytes(rt, name)?;
+            print::bytes(rt, b".\n")?;
+            Ok(false)
         }
     }
 }

@@ -1,18 +1,20 @@
 // Which program this is.
 use element::ELEMENTS;
 use report::{ROW_LIMIT, TEXT_LIMIT};
+use std::io;
 use words::print;
 
 // Obeys `version`.
-pub(crate) fn obey() {
-    print::version();
+pub(crate) fn obey(rt: &impl Print) -> io::Result<()> {
+    print::version(rt)?;
     print::bytes(
+        rt,
         b"\nADES pipe-separated text, edition 2022, optical and radar observations. Elements: ",
-    );
-    print::number(ELEMENTS as u64);
-    print::bytes(b". Limits of a report: ");
-    print::number(TEXT_LIMIT as u64);
-    print::bytes(b" bytes, ");
-    print::number(ROW_LIMIT as u64);
-    print::bytes(b" observations.\n");
+    )?;
+    print::number(rt, ELEMENTS as u64)?;
+    print::bytes(rt, b". Limits of a report: ")?;
+    print::number(rt, TEXT_LIMIT as u64)?;
+    print::bytes(rt, b" bytes, ")?;
+    print::number(rt, ROW_LIMIT as u64)?;
+    print::bytes(rt, b" observations.\n")
 }

@@ -4,9 +4,7 @@ use Rattle.std.specs.Prelude.{ℕ, Bool, true, cond, List, [], ◌∷◌, leb, l
 use Rattle.std.proofs.Math.Option.{Option, none, some}
 use Rattle.text.specs.Part.{same}
 use Rattle.files.specs.declared.Input.{Input}
-use Rattle.files.specs.declared.Input.TheVariants as Input
 use Rattle.files.specs.declared.Output.{Output}
-use Rattle.files.specs.declared.Output.TheVariants as Output
 
 -- What was read lies within the room.
 abbrev pub is_within : ℕ → Input → Bool

@@ -1,103 +1,103 @@
 // What kind of file a name stands for.
-ghost use Rattle.libc.specs.Io.{Ended};
+ghost use Rattle.std.specs.Prelude.{◌≡◌, ◌≢◌, ◌↔◌, true, IfOk, OnErr};
+ghost use Rattle.std.specs.Fs.{file_type, IsFile};
+ghost use Rattle.files.specs.Path.{is_path};
 
-use libc::types::{stat, timespec};
-use libc::{PATH_MAX, S_IFMT, S_IFREG};
+use std::fs::Metadata;
+use std::io::ErrorKind;
+use std::rt::Files;
+use std::{fs, io, str};
 use text::lines::up_to;
-use text::output::put;
 
-// The kinds that matter to a writer. A link is of another kind, whatever it leads to; Unknown is a file that cannot be looked at.
+// One more than the bytes of the longest path.
+pub(crate) const PATH_MAX: usize = 4096;
+
+// The system's numbers for three faults of a name: it has a byte 0, it is too long, it is no UTF-8 text.
+const EINVAL: i32 = 22;
+
+const ENAMETOOLONG: i32 = 36;
+
+const EILSEQ: i32 = 84;
+
+// The kinds that matter to a writer. A link is of another kind, whatever it leads to; Unknown is a file that cannot be looked at, with
+// the system's reason.
 #[derive(Clone, Copy)]
 pub(crate) enum Kind {
     Missing,
     Regular,
     Other,
-    Unknown,
+    Unknown(io::Error),
 }
 
-// The kind of the file that a name stands for; where it is unknown the system's reason can be told.
-pub(crate) fn of_name(name: &[u8]) -> Kind {
-    if is_path(name) {
-        let path = path(name);
-        kind_of(mode(&path), name)
-    } else {
-        Kind::Missing
+// The kind of the file that a name stands for. Where no file can have the name it is missing.
+pub(crate) fn of_name(rt: &impl Files, name: &[u8]) -> Kind {
+    match path(name) {
+        Ok(path) => kind_of(fs::symlink_metadata(rt, path), name),
+        Err(_) => Kind::Missing,
     }
 }
 
 // Whether a file can have the name: it is shorter than the longest path, and no byte of it is 0.
-fn is_path(name: &[u8]) -> bool {
+fn is_path(name: &[u8]) -> bool
+    ensures { result ≡ is_path name.now }
+{
     let before_zero = up_to(name, 0);
     (name.len() < PATH_MAX) & (before_zero == name.len())
 }
 
-// The kind that a mode says. Mode 0 is that of a file of the name that could not be looked at just now.
-fn kind_of(mode: u32, name: &[u8]) -> Kind {
-    if mode == 0 {
-        return unseen(name);
-    }
-    if mode & S_IFMT == S_IFREG {
-        Kind::Regular
-    } else {
-        Kind::Other
+// The kind that was found of the file of a name.
+fn kind_of(found: io::Result<Metadata>, name: &[u8]) -> Kind
+    ensures found { IfOk found (λ m. (result ≡ Kind.Regular) ↔ IsFile (file_type m)) }
+    ensures unseen { OnErr found (result ≢ Kind.Regular) }
+{
+    match found {
+        Ok(found) => mode(&found),
+        Err(error) => unseen(error, name),
     }
 }
 
-// The kind of a file of the name that could not be looked at just now. No file has an empty name, and none can be given it.
-fn unseen(name: &[u8]) -> Kind {
-    let missing = os::errno() == libc::ENOENT;
+// The kind of a file of the name that could not be looked at. No file has an empty name, and none can be given it.
+fn unseen(error: io::Error, name: &[u8]) -> Kind
+    ensures { result ≢ Kind.Regular }
+{
+    let missing = error.kind() == ErrorKind::NotFound;
     if missing & (0 < name.len()) {
         Kind::Missing
     } else {
-        Kind::Unknown
+        Kind::Unknown(error)
     }
 }
 
-// A name as the system takes it, ended by 0.
-fn path(name: &[u8]) -> [u8; PATH_MAX]
-    ensures { Ended result }
+// A name as the system takes it, or the reason for which it takes none such. std opens only names that are UTF-8 text.
+pub(crate) fn path(name: &[u8]) -> io::Result<&str>
+    ensures { IfOk result (λ p. (p.now ≡ name.now) × (is_path name.now ≡ true)) }
 {
-    let mut path = [0u8; PATH_MAX];
-    put(name, &mut path);
-    path[PATH_MAX - 1] = 0;
-    path
+    if !is_path(name) {
+        return Err(no_path(name));
+    }
+    match str::from_utf8(name) {
+        Ok(path) => Ok(path),
+        Err(_) => Err(io::Error::from_raw_os_error(EILSEQ)),
+    }
 }
 
-// The mode of the file at a path, which says its kind, or 0 where it cannot be looked at.
-fn mode(path: &[u8; PATH_MAX]) -> u32
-    requires { Ended path.now }
-{
-    let mut found = blank();
-    let answer = libc::lstat(path, &mut found);
-    mode_of(answer, found)
-}
-
-// The mode of what was found, or 0 where the answer is that nothing was.
-fn mode_of(answer: i32, found: stat) -> u32 {
-    if answer == 0 { found.st_mode } else { 0 }
-}
-
-// The description of no file.
-fn blank() -> stat {
-    let never = timespec {
-        tv_sec: 0,
-        tv_nsec: 0,
+// The system's reason for which a name that no file can have is no path.
+fn no_path(name: &[u8]) -> io::Error {
+    let number = if name.len() < PATH_MAX {
+        EINVAL
+    } else {
+        ENAMETOOLONG
     };
-    stat {
-        st_dev: 0,
-        st_ino: 0,
-        st_nlink: 0,
-        st_mode: 0,
-        st_uid: 0,
-        st_gid: 0,
-        __pad: 0,
-        st_rdev: 0,
-        st_size: 0,
-        st_blksize: 0,
-        st_blocks: 0,
-        st_atim: never,
-        st_mtim: never,
-        st_ctim: never,
-        __unused: [0i64; 3],
+    io::Error::from_raw_os_error(number)
+}
+
+// The kind that the mode of a file says.
+fn mode(found: &Metadata) -> Kind
+    ensures { (result ≡ Kind.Regular) ↔ IsFile (file_type found.now) }
+{
+    if found.is_file() {
+        Kind::Regular
+    } else {
+        Kind::Other
     }
 }

@@ -4,12 +4,14 @@
 
 mod kind;
 mod reading;
+mod telling;
 mod writing;
 
 ghost use Rattle.std.specs.Prelude.{◌≡◌, true, length};
 ghost use Rattle.files.specs.Answers.{is_within, by_name, fault_of};
 
-use libc::STDIN_FILENO;
+use std::io;
+use std::rt::Files;
 use text::part::same;
 
 // The longest name that an output may have.
@@ -34,25 +36,24 @@ pub enum Output {
 }
 
 // Reads a file, or standard input for `-`, into the space, as much as there is room for. The reason of a failure goes to standard error.
-pub fn read(name: &[u8], space: &mut [u8]) -> Input
+pub fn read(rt: &(impl Files + io::Input + Eprint + Alloc), name: &[u8], space: &mut [u8]) -> Input
     ensures { is_within (length space.old) result ≡ true }
 {
     if same(name, b"-") {
-        return reading::read_open(STDIN_FILENO, name, space);
+        return reading::read_open(rt, &mut rt.reader(), name, space);
     }
-    let file = os::open_read(name);
-    if file < 0 {
-        os::fail(name);
-        return Input::Failed;
+    match reading::open(rt, name) {
+        Ok(mut file) => reading::read_open(rt, &mut file, name, space),
+        Err(error) => {
+            telling::tell(rt, name, error);
+            Input::Failed
+        }
     }
-    let input = reading::read_open(file, name, space);
-    libc::close(file);
-    input
 }
 
 // Writes a text to a file, under its name and `.part` first, and then renames that; only a regular file is replaced. The reason of a
 // failure goes to standard error.
-pub fn write(name: &[u8], text: &[u8]) -> Output
+pub fn write(rt: &(impl Files + Eprint + Alloc), name: &[u8], text: &[u8]) -> Output
     ensures { by_name result ≡ fault_of name.now }
 {
     if same(name, b"-") {
@@ -61,5 +62,5 @@ pub fn write(name: &[u8], text: &[u8]) -> Output
     if LONGEST < name.len() {
         return Output::NameTooLong;
     }
-    writing::replace(name, text)
+    writing::replace(rt, name, text)
 }

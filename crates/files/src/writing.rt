@@ -4,72 +4,110 @@ ghost use Rattle.std.proofs.Math.Option.{none};
 ghost use Rattle.files.specs.Answers.{by_name, longest};
 ghost use Rattle.files.specs.Part.{part_name};
 
-use crate::kind::Kind;
-use crate::{Output, kind};
+use crate::kind::{Kind, PATH_MAX, path};
+use crate::{Output, kind, telling};
+use std::fs::{OpenFile, OpenOptions};
+use std::io::{ErrorKind, Write};
+use std::rt::Files;
+use std::{fs, io};
 use text::output::put;
 use text::part::front;
 
 // Writes a text to a file that is regular or not there; another is left as it is.
-pub(crate) fn replace(name: &[u8], text: &[u8]) -> Output
+pub(crate) fn replace(rt: &(impl Files + Eprint + Alloc), name: &[u8], text: &[u8]) -> Output
     requires { length name.now ≤ longest }
     ensures { by_name result ≡ none }
 {
-    let kind = kind::of_name(name);
+    let kind = kind::of_name(rt, name);
     match kind {
-        Kind::Missing | Kind::Regular => write_part(name, text),
+        Kind::Missing | Kind::Regular => write_part(rt, name, text),
         Kind::Other => Output::NotRegular,
-        Kind::Unknown => {
-            os::fail(name);
-            Output::Failed
-        }
+        Kind::Unknown(error) => failed(rt, name, error),
     }
 }
 
 // Writes a text to a new file, the name with `.part` after it, and then gives it the name.
-fn write_part(name: &[u8], text: &[u8]) -> Output
+fn write_part(rt: &(impl Files + Eprint + Alloc), name: &[u8], text: &[u8]) -> Output
     requires { length name.now ≤ longest }
     ensures { by_name result ≡ none }
 {
-    let mut space = io::buffer();
+    let mut space = [0u8; PATH_MAX];
     let length = put_part_name(name, &mut space);
-    write_by_way_of(front(&space, length), name, text)
+    write_by_way_of(rt, front(&space, length), name, text)
 }
 
 // Writes a text to a new file and then gives it its name; where that fails the new file is removed.
-fn write_by_way_of(part: &[u8], name: &[u8], text: &[u8]) -> Output
+fn write_by_way_of(
+    rt: &(impl Files + Eprint + Alloc),
+    part: &[u8],
+    name: &[u8],
+    text: &[u8],
+) -> Output
     requires { part.now ≡ part_name name.now }
     ensures { by_name result ≡ none }
 {
-    let file = os::create(part);
-    if file < 0 {
-        return not_made(part);
-    }
-    if write_open(file, text) {
-        if os::rename(part, name) == 0 {
-            return Output::Written;
+    let file = match create(rt, part) {
+        Ok(file) => file,
+        Err(error) => return not_made(rt, part, error),
+    };
+    match write_and_rename(rt, file, part, name, text) {
+        Ok(()) => Output::Written,
+        Err(error) => {
+            let output = failed(rt, name, error);
+            let _ = remove(rt, part);
+            output
         }
     }
-    os::fail(name);
-    os::unlink(part);
-    Output::Failed
+}
+
+// Writes a text to an open file, which has the name of the part, and then gives it its name.
+fn write_and_rename<R: Files>(
+    rt: &R,
+    file: R::File,
+    part: &[u8],
+    name: &[u8],
+    text: &[u8],
+) -> io::Result<()> {
+    write_open(file, text)?;
+    fs::rename(rt, path(part)?, path(name)?)
+}
+
+// Makes a new file of a name and opens it for writing; a file of that name that is there already is a failure.
+fn create<R: Files>(rt: &R, name: &[u8]) -> io::Result<R::File> {
+    OpenOptions::new()
+        .write(true)
+        .create_new(true)
+        .open(rt, path(name)?)
+}
+
+// Removes the file of a name.
+fn remove(rt: &impl Files, name: &[u8]) -> io::Result<()> {
+    fs::remove_file(rt, path(name)?)
 }
 
 // Why a new file could not be made: a file of that name is there already, or the system has another reason, which is told.
-fn not_made(part: &[u8]) -> Output
+fn not_made(rt: &(impl Eprint + Alloc), part: &[u8], error: io::Error) -> Output
     ensures { by_name result ≡ none }
 {
-    if os::errno() == libc::EEXIST {
+    if error.kind() == ErrorKind::AlreadyExists {
         return Output::PartThere;
     }
-    os::fail(part);
+    failed(rt, part, error)
+}
+
+// Tells the reason of a failure.
+fn failed(rt: &(impl Eprint + Alloc), name: &[u8], error: io::Error) -> Output
+    ensures { by_name result ≡ none }
+{
+    telling::tell(rt, name, error);
     Output::Failed
 }
 
-// Writes a text to an open file and closes it; whether all of it was taken.
-fn write_open(file: i32, text: &[u8]) -> bool {
-    let written = io::write_all(file, text);
-    let closed = libc::close(file) == 0;
-    written & closed
+// Writes a text to an open file and closes it. All of it was taken where that succeeds: what a system would tell at the close it tells
+// when the file is synchronised.
+fn write_open<F: Write + OpenFile + Drop>(mut file: F, text: &[u8]) -> io::Result<()> {
+    file.write_all(text)?;
+    file.sync_all()
 }
 
 // Puts a name and `.part` after it at the start of the space, and says the length of that.
