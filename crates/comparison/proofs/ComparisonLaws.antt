@@ -1,26 +1,22 @@
 -- Laws of the comparison: one for each step and each end of its two loops.
 use Prim.Native.Nat.{ℕ, zero, suc, ◌+◌, ◌-◌, ◌*◌, ◌≤◌, ◌<◌}
-use mathlib.Core.Path.{◌≡◌, refl, ap, sym, ◌∙◌}
-use mathlib.Core.Bool.{Bool, true, false, cond}
+use mathlib.Core.Path.{◌≡◌, refl, sym, ◌∙◌}
+use mathlib.Core.Bool.{Bool, true, false}
 use mathlib.Core.List.{List, [], ◌∷◌}
 use native.Mathlib.Numerals.{add-one}
 use native.Mathlib.Omega.{arith}
-use lib.Dec.{eqb}
 use lib.ListN.{length, drop, get_or, replicate, drop_of_length-le, length-replicate}
 use lib.Seq.{drop-cons}
 use borrow.Author.Tests.{eq-eqb, ne_eqb}
 use Rattle.text.specs.Part.{same}
-use Rattle.text.proofs.Bools.{bools}
 use Rattle.refusal.specs.declared.Refusal.{Refusal}
 use Rattle.element.specs.Table.{elements}
 use Rattle.element.specs.Observation.{Observation}
-use Rattle.report.specs.Report.{Outcome, accepted, refused, read, row_limit}
+use Rattle.report.specs.Report.{accepted, refused, read, row_limit}
 use Rattle.report.specs.Index.{Index, Noted, noted_value, room_in, IndexIs}
 use Rattle.report.specs.declared.answer.Checked.{Checked}
-use Rattle.report.specs.declared.answer.Checked.TheVariants as Checked
 use Rattle.report.proofs.AnswerLaws.{accepted_of}
 use Rattle.report.proofs.IndexLaws.{noted_value_lem}
-use Rattle.comparison.specs.declared.Compared.{Compared}
 use Rattle.comparison.specs.declared.Compared.TheVariants.{Same, Differ, FirstRefused, SecondRefused}
 use Rattle.comparison.specs.Comparison.{differs_from, first_element, first_difference, compared_of}
 use Rattle.comparison.specs.Steps.{observations_of, NotesAll}

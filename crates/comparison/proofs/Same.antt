@@ -13,8 +13,7 @@ use Rattle.text.proofs.Parts.{same_is, same_refl}
 use Rattle.element.specs.Table.{elements}
 use Rattle.element.specs.Observation.{Observation}
 use Rattle.report.specs.Report.{Outcome, accepted, refused, read}
-use Rattle.comparison.specs.declared.Compared.{Compared}
-use Rattle.comparison.specs.declared.Compared.TheVariants.{Same, Differ, FirstRefused, SecondRefused}
+use Rattle.comparison.specs.declared.Compared.TheVariants.{Same, Differ}
 use Rattle.comparison.specs.Comparison.{differs_from, first_element, first_difference, compared_of}
 use Rattle.report.proofs.Long.{AllLong, Long, read_long}
 

@@ -6,7 +6,7 @@ use Prim.Native.Nat.{ℕ, ◌≤◌, ◌<◌, zero, suc}
 use native.Mathlib.Omega.{arith}
 use lib.ListN.{length, take, drop, length-append}
 use lib.Seq.{take-append-add, drop-append-add}
-use Rattle.cuts.specs.Cheapest.{best_cost, chosen}
+use Rattle.cuts.specs.Cheapest.{chosen}
 use Rattle.cuts.specs.Cuts.{Yields, cost, Cuts, Wanted}
 use Rattle.cuts.proofs.WantedUnique.{yields_antisym}
 use Rattle.cuts.proofs.LikeRows.{Together, cuts_split, cuts_zero, Trade, wanted_tail, no_cut}

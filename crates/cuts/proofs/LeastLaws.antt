@@ -1,7 +1,7 @@
 -- The last place of the least in a range: one place more, two ranges that meet, and a range that is moved.
 use mathlib.Core.Path.{◌≡◌, sym, ap, subst}
 use mathlib.Core.Logic.{⊎_elim}
-use Prim.Native.Nat.{ℕ, ◌≤◌, ◌<◌, zero, suc, ◌+◌, pred}
+use Prim.Native.Nat.{ℕ, ◌≤◌, ◌<◌, zero, suc, ◌+◌}
 use native.Mathlib.Omega.{arith}
 use native.Mathlib.Nat.{le-suc_iff}
 use native.Mathlib.Decide.{dec_le}

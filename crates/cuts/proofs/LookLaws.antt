@@ -1,7 +1,7 @@
 -- Steps of looking at the ends of the first block: one end more, and what each sum is bounded by.
-use mathlib.Core.Path.{◌≡◌, refl, sym, ap, ap₂, ◌∙◌}
+use mathlib.Core.Path.{◌≡◌, sym, ap, ap₂, ◌∙◌}
 use mathlib.Core.List.{List, [], ◌∷◌}
-use Prim.Native.Nat.{ℕ, ◌≤◌, ◌<◌, zero, suc, ◌+◌, ◌-◌, ◌^◌}
+use Prim.Native.Nat.{ℕ, ◌≤◌, ◌<◌, zero, suc, ◌+◌}
 use native.Mathlib.Omega.{arith}
 use lib.ListN.{length, take, get_or}
 use lib.Bits.{bit_or}
@@ -13,7 +13,7 @@ use mir.Syntax.{w64}
 use mir.Val.{Fits}
 use Rattle.cuts.specs.Runs.{runs_of}
 use Rattle.cuts.specs.Block.{most_rows, most_bytes, Row, row, union, value_bytes, row_count, bytes_of}
-use Rattle.cuts.specs.Look.{block_limit, head_of, end_cost, LeastIn, Looked, IsFull, LookedNear, LookedFar, Small}
+use Rattle.cuts.specs.Look.{block_limit, head_of, end_cost, Looked, IsFull, LookedNear, Small}
 use Rattle.cuts.specs.declared.block.Head.{Head}
 use Rattle.cuts.specs.declared.ends.Look.{Look}
 use Rattle.cuts.proofs.SumLaws.{runs_length, no_row, runs_at, union_take, values_take, count_take, values_take_le, count_take_le, block_take}

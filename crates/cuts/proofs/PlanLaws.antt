@@ -8,7 +8,7 @@ use lib.Seq.{length-take-le, take_at}
 use Rattle.cuts.specs.Runs.{runs_of, in_rows, ReadyRuns, PlannedRuns}
 use Rattle.cuts.specs.Cheapest.{follow, best_costs, best_cost, first_more, first_blocks, chosen}
 use Rattle.cuts.specs.Walk.{block_rows, Walkable}
-use Rattle.cuts.specs.Block.{most_rows, Row, total, block_bytes}
+use Rattle.cuts.specs.Block.{Row, total, block_bytes}
 use Rattle.cuts.specs.Look.{Fit, Best}
 use Rattle.cuts.proofs.SumLaws.{runs_length, runs_total}
 use Rattle.cuts.proofs.CheapestLaws.{costs_at, follow_at}

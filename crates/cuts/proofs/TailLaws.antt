@@ -1,6 +1,6 @@
 -- Tails: a run more in front costs each end the same where it brings no column, and the best of all ends is made of what was looked at and
 -- what was passed on.
-use mathlib.Core.Path.{◌≡◌, refl, sym, ap, ap₂, ◌∙◌, subst, subst₂}
+use mathlib.Core.Path.{◌≡◌, refl, sym, ap, ◌∙◌, subst, subst₂}
 use mathlib.Core.Bool.{Bool, true, false}
 use mathlib.Core.List.{List, [], ◌∷◌}
 use Prim.Native.Nat.{ℕ, ◌≤◌, ◌<◌, zero, suc, ◌+◌, ◌-◌, ◌*◌, ◌^◌}
@@ -17,7 +17,7 @@ use mir.Syntax.{w64}
 use mir.Val.{Fits}
 use Rattle.cuts.specs.Runs.{runs_of}
 use Rattle.cuts.specs.Block.{Row, row, union, value_bytes, row_count, bytes_of, block_bytes}
-use Rattle.cuts.specs.Look.{block_limit, head_of, end_cost, LeastIn, Looked, IsFull, LookedNear, LookedFar, Small, Ends, Passed, TailIs, tail_with, tail_if, tail_of, found_if, found_of, FoundIs}
+use Rattle.cuts.specs.Look.{block_limit, head_of, end_cost, LeastIn, IsFull, LookedNear, LookedFar, Small, Ends, Passed, TailIs, tail_with, tail_if, tail_of, found_if, found_of, FoundIs}
 use Rattle.cuts.specs.declared.block.Head.{Head}
 use Rattle.cuts.specs.declared.ends.Look.{Look}
 use Rattle.cuts.specs.declared.tail.Tail.{Tail}

@@ -13,7 +13,7 @@ use Rattle.element.specs.Table.{form_of}
 use Rattle.element.specs.declared.form.Form.{Form}
 use Rattle.element.specs.declared.form.Form.TheVariants.{Unknown, PermID, ProvID, ArtSat, Alphanumeric, Free, Mode, System, Centre, Decimal, Correlation, Time, RightAscension, Declination, Flag, Covariance}
 use Rattle.element.specs.declared.form.Check.{Check}
-use Rattle.element.specs.declared.form.Check.TheVariants.{Fine, Bad}
+use Rattle.element.specs.declared.form.Check.TheVariants.{Fine}
 
 -- The rule of each form: the order changed those of decimals, rmsCorr, ra and dec.
 abbrev pub value_in_before : Form → List ℕ → Value

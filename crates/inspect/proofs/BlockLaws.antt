@@ -1,12 +1,12 @@
 -- Laws of a text's blocks: one for each step and each end of a loop.
 use Prim.Native.Nat.{ℕ, zero, suc, ◌+◌, ◌-◌, ◌≤◌, ◌<◌}
 use mathlib.Core.Path.{◌≡◌, refl, ap, sym, ◌∙◌}
-use mathlib.Core.Bool.{Bool, true, false, ◌&&◌}
+use mathlib.Core.Bool.{true, false, ◌&&◌}
 use mathlib.Core.List.{List, [], ◌∷◌, ◌++◌, append_assoc}
 use native.Mathlib.Numerals.{add-one}
 use native.Mathlib.Omega.{arith}
 use lib.Dec.{eqb}
-use lib.ListN.{length, take, drop, get_or, set, drop_of_length-le, length-drop, length-take, length-append, length-set, take-append-drop}
+use lib.ListN.{length, take, drop, get_or, set, drop_of_length-le, length-drop, length-take, length-set, take-append-drop}
 use lib.Seq.{drop-cons, drop-drop, take-suc-set, drop-set-lt}
 use Rattle.text.specs.Output.{over}
 use Rattle.report.specs.Report.{is_hash}

@@ -1,15 +1,15 @@
 -- Laws of the parts of a text between marks: one for each step and each end of a loop, and those that the crates above cite.
-use Prim.Native.Nat.{ℕ, zero, suc, ◌+◌, ◌-◌, ◌≤◌, ◌<◌, min}
-use mathlib.Core.Path.{◌≡◌, refl, ap, sym, ◌∙◌}
+use Prim.Native.Nat.{ℕ, zero, suc, ◌+◌, ◌-◌, ◌≤◌, ◌<◌}
+use mathlib.Core.Path.{◌≡◌, refl, ap, ◌∙◌}
 use mathlib.Core.Bool.{cond}
-use mathlib.Core.List.{List, [], ◌∷◌}
+use mathlib.Core.List.{List}
 use native.Mathlib.Numerals.{add-one}
 use native.Mathlib.Omega.{arith}
 use lib.Dec.{eqb}
-use lib.ListN.{length, take, drop, get_or, drop_of_length-le, length-drop}
+use lib.ListN.{length, take, drop, get_or, drop_of_length-le}
 use lib.Seq.{drop-cons}
 use Rattle.text.specs.Lines.{up_to}
-use Rattle.text.proofs.LineLaws.{up_to_le, rest_of}
+use Rattle.text.proofs.LineLaws.{rest_of}
 use Rattle.inspect.specs.Part.{part_from, after_mark, part_start, part_of, marks_in}
 
 -- What is left of a text after its front up to a mark.

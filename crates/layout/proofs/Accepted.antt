@@ -20,7 +20,6 @@ use Rattle.element.specs.Observation.{Observation, is_present, observation_fault
 use Rattle.element.specs.declared.form.Check.{Check}
 use Rattle.element.specs.declared.form.Check.TheVariants.{Fine, Bad}
 use Rattle.report.specs.declared.state.Need.{Need}
-use Rattle.report.specs.declared.state.Need.TheVariants as Need
 use Rattle.report.specs.Report.{row_limit, version_line, is_hash, State, Step, next, row, bad, member, columns_from, or_next, field_fault, fill, row_of, row_unless, data_line, opened, other, step, accepted, after_row, after, read_from, begin, read}
 use Rattle.report.proofs.Long.{row_long}
 use Rattle.report.proofs.Join.{bad≢row, next≢row, refused≢accepted, more_accepted, kind_row, end_opens, read_accepted}

@@ -16,7 +16,6 @@ use Rattle.refusal.specs.declared.Fault.TheVariants.{Sound}
 use Rattle.element.specs.Table.{elements, name_of, column_order}
 use Rattle.element.specs.Observation.{Observation, is_present, is_radar, holds_any}
 use Rattle.report.specs.declared.state.Need.{Need}
-use Rattle.report.specs.declared.state.Need.TheVariants as Need
 use Rattle.report.specs.Report.{text_limit, row_limit, version_line, is_hash, next, row, member, columns_from, field_fault, fill, row_of, data_line, other, step, accepted, read_from, begin, read}
 use Rattle.report.proofs.Join.{row_kind, read_within}
 use Rattle.layout.specs.Written.{is_anywhere, passing, columns_of, barred, line_of, names_at, values_at, data_lines, block_text}

@@ -15,7 +15,6 @@ use Rattle.text.proofs.Parts.{same_is}
 use Rattle.element.specs.Table.{elements, names, name_of, index_of, index_in}
 use Rattle.element.specs.Observation.{Observation, is_present, is_radar, bit}
 use Rattle.report.specs.declared.state.Need.{Need}
-use Rattle.report.specs.declared.state.Need.TheVariants as Need
 use Rattle.report.specs.Report.{version_line, is_hash, State, Step, next, row, bad, member, columns_from, fill, data_line, opened, other, step, accepted, at_end, after_row, after, read_from, begin, read}
 use Rattle.report.proofs.Join.{bad≢next, bad≢row, refused≢accepted, more_accepted, read_accepted, data_next, kind_next, kind_row}
 use Rattle.cuts.specs.Cuts.{stretch}

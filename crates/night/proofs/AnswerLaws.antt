@@ -18,7 +18,6 @@ use Rattle.report.specs.Report.{refused, read}
 use Rattle.report.specs.Answers.{request}
 use Rattle.report.specs.Index.{Index, rows_in, room_in, AcceptedIs, IndexIs, noted_value}
 use Rattle.report.specs.declared.answer.Checked.{Checked}
-use Rattle.report.specs.declared.answer.Checked.TheVariants as Checked
 use Rattle.report.proofs.AnswerLaws.{accepted_of}
 use Rattle.report.proofs.IndexLaws.{noted_value_lem}
 use Rattle.night.specs.Record.{fields_in, record_bytes, record_of}

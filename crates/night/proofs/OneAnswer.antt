@@ -7,11 +7,8 @@ use Rattle.refusal.proofs.Papers.{refusal_of, refusal_of_paper}
 use Rattle.night.specs.List.{Done, written_paper, listed_paper, recorded_paper}
 use Rattle.night.specs.declared.answer.Record.{Record}
 use Rattle.night.specs.declared.answer.Written.{Written}
-use Rattle.night.specs.declared.answer.Written.TheVariants as Written
 use Rattle.night.specs.declared.answer.Listed.{Listed}
-use Rattle.night.specs.declared.answer.Listed.TheVariants as Listed
 use Rattle.night.specs.declared.answer.Recorded.{Recorded}
-use Rattle.night.specs.declared.answer.Recorded.TheVariants as Recorded
 
 -- The answer to a writing that the paper's answer stands for.
 abbrev written_from : Answer Done → Written

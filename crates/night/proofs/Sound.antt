@@ -30,7 +30,6 @@ use Rattle.value.specs.Numeral.{digits, part}
 use Rattle.value.specs.Sign.{is_minus, bare, with_sign}
 use Rattle.value.specs.Time.{is_fraction, is_time_end, is_time, is_moment, day_of, fraction, microseconds, obs_time}
 use Rattle.value.specs.declared.Value.{Value}
-use Rattle.value.specs.declared.Value.TheVariants as Value
 use Rattle.value.proofs.Numerals.{number_append}
 use Rattle.element.specs.Form.{value_of, check_of, fault_of}
 use Rattle.element.specs.Observation.{Observation, is_present, value_at, is_held, holds_any, first_missing, identification, needed, missing_at, group_fault, optical_fault, is_radar, is_wgs84, is_earth, observation_fault}

@@ -22,7 +22,6 @@ use Rattle.value.specs.Sign.{bare, with_sign}
 use Rattle.value.specs.Time.{is_time_end, is_time, is_moment, day_of, fraction, microseconds, obs_time}
 use Rattle.value.specs.Word.{mode}
 use Rattle.value.specs.declared.Value.{Value}
-use Rattle.value.specs.declared.Value.TheVariants as Value
 use Rattle.element.specs.Form.{value_of, check_of, fault_of}
 use Rattle.element.specs.Observation.{Observation, is_present, holds_any, first_missing, group_missing, group_fault, optical_fault, fault_in, is_radar, is_wgs84, is_earth, observation_fault}
 use Rattle.element.specs.Table.{column_order}

@@ -10,11 +10,8 @@ use Rattle.report.specs.Answers.{is_observation, request}
 use Rattle.night.specs.Record.{Fields, padded, record_of, fields_of, is_record}
 use Rattle.night.specs.declared.answer.Record.{Record}
 use Rattle.night.specs.declared.answer.Written.{Written}
-use Rattle.night.specs.declared.answer.Written.TheVariants as Written
 use Rattle.night.specs.declared.answer.Listed.{Listed}
-use Rattle.night.specs.declared.answer.Listed.TheVariants as Listed
 use Rattle.night.specs.declared.answer.Recorded.{Recorded}
-use Rattle.night.specs.declared.answer.Recorded.TheVariants as Recorded
 
 -- How many bytes a record has.
 abbrev pub record_size : ℕ

@@ -17,7 +17,6 @@ use Rattle.element.proofs.Sets.{set_radar}
 use Rattle.report.specs.Report.{accepted, read}
 use Rattle.report.specs.Index.{Index, room_in, AcceptedIs, IndexIs}
 use Rattle.report.specs.declared.answer.Checked.{Checked}
-use Rattle.report.specs.declared.answer.Checked.TheVariants as Checked
 use Rattle.report.proofs.AnswerLaws.{accepted_of, refused_of}
 use Rattle.report.proofs.Join.{read_accepted}
 use Rattle.cuts.specs.Cuts.{cost, Cuts}

@@ -24,7 +24,6 @@ use Rattle.cuts.specs.declared.Plan.{Plan}
 use Rattle.pack.specs.Promise.{MeasuredAs, MeasurePromised, written_answer, written_over, WrittenAs, WritePromised}
 use Rattle.pack.specs.Inner.{observed, Wrote, BlocksAsk, CutIs, PlannedIs, Given, room_answer}
 use Rattle.pack.specs.declared.plan.Planned.{Planned}
-use Rattle.pack.specs.declared.plan.Planned.TheVariants as Planned
 use Rattle.pack.proofs.Unique.{refused≢given}
 
 -- ---- by whether the cuts are right, and by the room

@@ -14,9 +14,7 @@ use Rattle.layout.proofs.Unique.{cuts_unique}
 use Rattle.pack.specs.Promise.{measured_paper, MeasureCase, MeasurePromised}
 use Rattle.pack.specs.Promise.{written_paper, written_answer, written_over, WriteCase, WritePromised}
 use Rattle.pack.specs.declared.Measured.{Measured}
-use Rattle.pack.specs.declared.Measured.TheVariants as Measured
 use Rattle.pack.specs.declared.Written.{Written}
-use Rattle.pack.specs.declared.Written.TheVariants as Written
 
 -- A refusal is no length.
 pub refused≢given : {A : Type 0} (x : Paper) (a : A) → refused_by x ≡ given a → ⊥

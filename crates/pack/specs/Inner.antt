@@ -16,7 +16,6 @@ use Rattle.cuts.specs.declared.Plan.{Plan}
 use Rattle.layout.specs.Packed.{ShortestCuts}
 use Rattle.layout.specs.Written.{passing, line_of, values_at, data_lines, block_text, written, Valid}
 use Rattle.pack.specs.declared.plan.Planned.{Planned}
-use Rattle.pack.specs.declared.plan.Planned.TheVariants as Planned
 
 -- The observations of what a report reads as, none where it is refused.
 abbrev pub observations_of : Outcome → List Observation

@@ -12,9 +12,7 @@ use Rattle.report.specs.Answers.{request}
 use Rattle.layout.specs.Packed.{ShortestCuts, PackedIs}
 use Rattle.layout.specs.Written.{written}
 use Rattle.pack.specs.declared.Measured.{Measured}
-use Rattle.pack.specs.declared.Measured.TheVariants as Measured
 use Rattle.pack.specs.declared.Written.{Written}
-use Rattle.pack.specs.declared.Written.TheVariants as Written
 
 -- Of a refused report each call gives its refusal. No refusal changes what is lent.
 pub record RefusedAs {A : Type 0} (refusal : Refusal) (before after : List ℕ) (answer : Answer A) : Type 0 where

@@ -22,9 +22,7 @@ use Rattle.report.specs.Answers.{checked_paper, checked_answer, request, is_obse
 use Rattle.report.specs.Index.{Index, room_in, Noted, AcceptedIs, IndexCase, IndexIs}
 use Rattle.report.specs.Inner.{Room, slot_shown, LocatedIs}
 use Rattle.report.specs.declared.answer.Checked.{Checked}
-use Rattle.report.specs.declared.answer.Checked.TheVariants as Checked
 use Rattle.report.specs.declared.answer.Showing.{Showing}
-use Rattle.report.specs.declared.answer.Showing.TheVariants as Showing
 
 -- The answer to a check is what the report reads as.
 pub checked_is : {t : List ℕ} {first room : ℕ} {x : Index} {r : Checked} → IndexIs t first room x r → checked_paper r ≡ checked_answer (read t)

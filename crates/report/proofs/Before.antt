@@ -19,7 +19,6 @@ use Rattle.element.specs.declared.form.Check.TheVariants.{Fine, Bad}
 use Rattle.element.proofs.Before.{fault_before, fault_kept}
 use Rattle.report.specs.Report.{text_limit, row_limit, version_line, is_hash, State, Step, next, row, bad, columns_from, or_next, field_fault, row_of, row_unless, data_line, of_kind, opened, other, step, Outcome, accepted, refuse, more, at_end, after_row, after, read_from, begin, read}
 use Rattle.report.specs.declared.state.Need.{Need}
-use Rattle.report.specs.declared.state.Need.TheVariants as Need
 use Rattle.report.proofs.Join.{refused≢accepted, more_accepted}
 
 -- The reader by a rule for the fault of a value. `reads_by` shows that it is `read`, by the rule that stands.

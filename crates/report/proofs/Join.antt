@@ -17,7 +17,6 @@ use Rattle.refusal.specs.declared.Fault.TheVariants.{Sound, At}
 use Rattle.refusal.specs.declared.Refusal.{Refusal}
 use Rattle.element.specs.Observation.{Observation, is_radar, observation_fault}
 use Rattle.report.specs.declared.state.Need.{Need}
-use Rattle.report.specs.declared.state.Need.TheVariants as Need
 use Rattle.report.specs.Report.{text_limit, row_limit, version_line, is_hash, State, Step, next, row, bad, field_fault, row_of, row_unless, data_line, of_kind, opened, other, step, Outcome, accepted, refused, more, at_end, after_row, after, read_from, begin, read}
 
 -- A refusal is no state.

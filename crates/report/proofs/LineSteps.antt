@@ -1,5 +1,5 @@
 -- Laws of a line: what it comes to, by each way that it can be taken.
-use Prim.Native.Nat.{ℕ, ◌<◌, ◌-◌}
+use Prim.Native.Nat.{ℕ, ◌<◌}
 use mathlib.Core.Path.{◌≡◌, refl, ap, sym, subst}
 use mathlib.Core.List.{List, [], ◌∷◌}
 use mathlib.Core.Bool.{Bool, true, false}
@@ -15,10 +15,8 @@ use Rattle.report.specs.Report.{Step, bad, is_hash, version_line, columns_from, 
 use Rattle.report.specs.Index.{Index}
 use Rattle.report.specs.Inner.{between, Known, NamedCase, NamedIs, RowAsks, RowCase, RowIs, LineAsks, LineCase, TookLine, step_at, other_at, opened_to, after_rows}
 use Rattle.report.specs.declared.state.Need.{Need}
-use Rattle.report.specs.declared.state.Need.TheVariants as Need
 use Rattle.report.specs.declared.state.State.{State as CodeState}
 use Rattle.report.specs.declared.state.Taken.{Taken}
-use Rattle.report.specs.declared.state.Taken.TheVariants as Taken
 
 pub hash_none : (l : List ℕ) → length l ≡ 0 → false ≡ is_hash l
 hash_none [] h = refl

@@ -1,7 +1,7 @@
 -- Every observation that a text reads as has a value for each element, empty where the element is absent.
 use Prim.Native.Nat.{ℕ, suc}
 use mathlib.Core.Path.{◌≡◌, refl, ◌∙◌}
-use mathlib.Core.Bool.{Bool, cond, beq}
+use mathlib.Core.Bool.{Bool, beq}
 use mathlib.Core.List.{List, [], ◌∷◌}
 use lib.Dec.{eqb, ltb}
 use lib.ListN.{length, set, replicate, length-set, length-replicate}
@@ -13,7 +13,6 @@ use Rattle.refusal.specs.declared.Fault.TheVariants.{Sound, At}
 use Rattle.element.specs.Table.{elements, index_of}
 use Rattle.element.specs.Observation.{Observation, is_present, is_radar, observation_fault}
 use Rattle.report.specs.declared.state.Need.{Need}
-use Rattle.report.specs.declared.state.Need.TheVariants as Need
 use Rattle.report.specs.Report.{text_limit, row_limit, version_line, is_hash, State, Step, next, row, bad, member, columns_from, field_fault, fill, row_of, row_unless, data_line, of_kind, opened, other, step, Outcome, accepted, refused, more, at_end, after_row, after, read_from, begin, read}
 
 -- Each of the observations has a value for each element.

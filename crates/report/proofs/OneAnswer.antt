@@ -6,11 +6,8 @@ use Rattle.refusal.proofs.Papers.{refusal_of, refusal_of_paper}
 use Rattle.value.specs.Paper.{Exact, no_value, whole, decimal, time, angle, scaled}
 use Rattle.report.specs.Answers.{checked_paper, showing_paper, valued_paper}
 use Rattle.report.specs.declared.answer.Checked.{Checked}
-use Rattle.report.specs.declared.answer.Checked.TheVariants as Checked
 use Rattle.report.specs.declared.answer.Showing.{Showing}
-use Rattle.report.specs.declared.answer.Showing.TheVariants as Showing
 use Rattle.report.specs.declared.answer.Valued.{Valued}
-use Rattle.report.specs.declared.answer.Valued.TheVariants as Valued
 
 -- The answer to a check that the paper's answer stands for.
 abbrev checked_from : Answer ℕ → Checked

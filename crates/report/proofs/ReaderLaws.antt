@@ -9,7 +9,7 @@ use lib.Seq.{drop-drop, get_or-append-add}
 use borrow.Author.Tests.{le-ltb, lt-ltb, le-leb, leb-true, ltb-true, ltb-false, eqb-true, eqb-false}
 use native.Mathlib.Omega.{arith}
 use native.Mathlib.Numerals.{add-one}
-use Rattle.text.specs.Lines.{end, cut, line, lines, up_to, first_line, printable, fields, ScannedIs}
+use Rattle.text.specs.Lines.{cut, line, lines, up_to, first_line, printable, fields, ScannedIs}
 use Rattle.text.proofs.Bools.{bools}
 use Rattle.text.proofs.LineLaws.{up_to_le, first_line_lem, lines_line, lines_cut, rest_of}
 use Rattle.refusal.specs.declared.Kind.{Kind}
@@ -17,17 +17,14 @@ use Rattle.refusal.specs.declared.Kind.TheVariants.{TextTooLong, NoLineEnd}
 use Rattle.refusal.specs.declared.Refusal.{Refusal}
 use Rattle.element.specs.Table.{elements}
 use Rattle.element.specs.Observation.{Observation}
-use Rattle.report.specs.Report.{row, bad, Outcome, accepted, refused, more, at_end, after, read_from, begin, read, text_limit, row_limit}
+use Rattle.report.specs.Report.{bad, Outcome, accepted, refused, more, at_end, after, read_from, begin, read, text_limit, row_limit}
 use Rattle.report.specs.Starts.{starts_after, starts_from, starts_in, starts_of}
 use Rattle.report.specs.Index.{Index, Noted, AcceptedIs, IndexCase, IndexIs}
 use Rattle.report.specs.Inner.{between, state_of, Known, Room, KeptBut, NextIs, RowTaken, LineAsks, TookLine, step_at, slot_of, checked_at}
 use Rattle.report.specs.declared.answer.Checked.{Checked}
-use Rattle.report.specs.declared.answer.Checked.TheVariants as Checked
 use Rattle.report.specs.declared.state.Need.{Need}
-use Rattle.report.specs.declared.state.Need.TheVariants as Need
 use Rattle.report.specs.declared.state.State.{State as CodeState}
 use Rattle.report.specs.declared.state.Taken.{Taken}
-use Rattle.report.specs.declared.state.Taken.TheVariants as Taken
 
 -- Observations before what is read.
 abbrev pub prefix : List Observation → Outcome → Outcome

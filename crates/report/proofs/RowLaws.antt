@@ -27,13 +27,11 @@ use Rattle.element.specs.declared.form.Check.TheVariants.{Fine, Bad}
 use Rattle.element.proofs.Sets.{set_mark, set_fault_lem, set_radar}
 use Rattle.report.specs.Report.{Step, row, bad, field_fault, fill, row_of, data_line, row_limit}
 use Rattle.report.specs.Starts.{fill_starts, starts_of}
-use Rattle.report.specs.Index.{Index, lent, Shows, Noted}
+use Rattle.report.specs.Index.{Index, lent, Shows}
 use Rattle.report.specs.Inner.{between, marks_of, mark_on, after_rows, taken_by, held_by, Kept, FieldsAsk, FieldsGood, FieldsAre, RowAsks, RowCase, RowIs}
 use Rattle.report.specs.declared.row.Marks.{Marks}
 use Rattle.report.specs.declared.row.Fields.{Fields}
-use Rattle.report.specs.declared.row.Fields.TheVariants as Fields
 use Rattle.report.specs.declared.state.Taken.{Taken}
-use Rattle.report.specs.declared.state.Taken.TheVariants as Taken
 
 -- ---- marks
 

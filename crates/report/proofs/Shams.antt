@@ -11,7 +11,6 @@ use Rattle.report.specs.Report.{accepted, read}
 use Rattle.report.specs.Answers.{checked_paper, checked_answer}
 use Rattle.report.specs.Specimen.{specimen}
 use Rattle.report.specs.declared.answer.Checked.{Checked}
-use Rattle.report.specs.declared.answer.Checked.TheVariants as Checked
 use Rattle.report.proofs.Computed.{reading}
 
 -- A report where the sham's answer is not the one that is promised.

@@ -10,11 +10,8 @@ use Rattle.element.specs.Form.{value_of, has_value}
 use Rattle.element.specs.Observation.{Observation, is_present}
 use Rattle.report.specs.Report.{Outcome, accepted, refused}
 use Rattle.report.specs.declared.answer.Checked.{Checked}
-use Rattle.report.specs.declared.answer.Checked.TheVariants as Checked
 use Rattle.report.specs.declared.answer.Showing.{Showing}
-use Rattle.report.specs.declared.answer.Showing.TheVariants as Showing
 use Rattle.report.specs.declared.answer.Valued.{Valued}
-use Rattle.report.specs.declared.answer.Valued.TheVariants as Valued
 
 -- The answer to a check: the number of observations, or a refusal.
 abbrev pub checked_paper : Checked → Answer ℕ

@@ -6,7 +6,6 @@ use Rattle.element.specs.Observation.{Observation, is_present, set_of}
 use Rattle.report.specs.Report.{accepted, refused, read, row_limit}
 use Rattle.report.specs.Starts.{starts_in}
 use Rattle.report.specs.declared.answer.Checked.{Checked}
-use Rattle.report.specs.declared.answer.Checked.TheVariants as Checked
 
 -- The lent lists: a set of present elements a row, and a start and a length an element of a row.
 pub record Index : Type 0 where

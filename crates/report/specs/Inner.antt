@@ -1,11 +1,10 @@
 -- What the reader's private functions promise each other. A reviewer of the report's rules can skip this file.
-use Rattle.std.specs.Prelude.{ℕ, suc, ◌+◌, ◌-◌, ◌*◌, ◌^◌, ◌≤◌, ◌<◌, ◌≡◌, List, [], Bool, false, cond, ◌&&◌, ◌||◌, eqb, leb, ltb, length, take, drop, get_or, set}
+use Rattle.std.specs.Prelude.{ℕ, ◌+◌, ◌-◌, ◌*◌, ◌^◌, ◌≤◌, ◌<◌, ◌≡◌, List, [], Bool, false, cond, ◌&&◌, ◌||◌, eqb, leb, ltb, length, take, drop, get_or}
 use Rattle.std.specs.Bool.{beq}
 use Rattle.std.specs.Int.Bits.{bit_or}
 use Rattle.text.specs.Bytes.{bytes}
 use Rattle.text.specs.Part.{same}
 use Rattle.text.specs.Lines.{fields}
-use Rattle.refusal.specs.declared.Kind.{Kind}
 use Rattle.refusal.specs.declared.Kind.TheVariants.{BlockUnfinished, KindsMixed}
 use Rattle.refusal.specs.declared.Fault.{Fault}
 use Rattle.refusal.specs.declared.Fault.TheVariants.{Sound, At}
@@ -17,17 +16,12 @@ use Rattle.report.specs.Starts.{starts_of, starts_in}
 use Rattle.report.specs.Answers.{shown_of, showing_paper, showing_answer}
 use Rattle.report.specs.Index.{Index, Shows, Noted}
 use Rattle.report.specs.declared.answer.Checked.{Checked}
-use Rattle.report.specs.declared.answer.Checked.TheVariants as Checked
 use Rattle.report.specs.declared.answer.Showing.{Showing}
-use Rattle.report.specs.declared.answer.Showing.TheVariants as Showing
 use Rattle.report.specs.declared.row.Marks.{Marks}
 use Rattle.report.specs.declared.row.Fields.{Fields}
-use Rattle.report.specs.declared.row.Fields.TheVariants as Fields
 use Rattle.report.specs.declared.state.Need.{Need}
-use Rattle.report.specs.declared.state.Need.TheVariants as Need
 use Rattle.report.specs.declared.state.State.{State as CodeState}
 use Rattle.report.specs.declared.state.Taken.{Taken}
-use Rattle.report.specs.declared.state.Taken.TheVariants as Taken
 
 -- The bytes of a text between two places.
 abbrev pub between : List ℕ → ℕ → ℕ → List ℕ

@@ -1,5 +1,5 @@
 -- What a report is, what it means and how it is refused: document 01's line rules, in its order of refusals, and since order 3 a block's kind.
-use Rattle.std.specs.Prelude.{ℕ, suc, List, [], ◌∷◌, ◌++◌, Bool, true, false, cond, ◌||◌, length, set, replicate, eqb, ltb}
+use Rattle.std.specs.Prelude.{ℕ, suc, List, [], ◌∷◌, ◌++◌, Bool, false, cond, ◌||◌, length, set, replicate, eqb, ltb}
 use Rattle.std.specs.Bool.{beq}
 use Rattle.text.specs.Bytes.{bytes}
 use Rattle.text.specs.Part.{same}
@@ -15,7 +15,6 @@ use Rattle.element.specs.Observation.{Observation, is_present, is_radar, observa
 use Rattle.element.specs.declared.form.Check.{Check}
 use Rattle.element.specs.declared.form.Check.TheVariants.{Fine, Bad}
 use Rattle.report.specs.declared.state.Need.{Need}
-use Rattle.report.specs.declared.state.Need.TheVariants as Need
 
 -- The text limit, in bytes.
 abbrev pub text_limit : ℕ

@@ -1,6 +1,5 @@
 -- `account::gather` meets its contract. The invariant: the rows passed are gathered.
 use borrow.Author.Rules.{rules}
-use Prim.Native.Nat.{◌-◌}
 use Rattle.account.proofs.AccountLaws.{gather-needs}
 use Rattle.account.proofs.gather.Goals as goal
 

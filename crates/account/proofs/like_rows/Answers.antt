@@ -1,6 +1,5 @@
 -- `account::like_rows` meets its contract. The invariant: the rows passed have the set of the first.
 use borrow.Author.Rules.{rules}
-use Prim.Native.Nat.{◌-◌}
 use Rattle.account.proofs.AccountLaws.{like-needs}
 use Rattle.account.proofs.like_rows.Goals as goal
 

@@ -1,6 +1,5 @@
 -- `account::rows_of_kind` meets its contract. The invariant: the rows passed are of the kind of the first.
 use borrow.Author.Rules.{rules}
-use Prim.Native.Nat.{◌-◌}
 use Rattle.account.proofs.AccountLaws.{kind-needs}
 use Rattle.account.proofs.rows_of_kind.Goals as goal
 

@@ -1,7 +1,6 @@
 -- `comparison::compare_rows` meets its contract.
 use Rattle.comparison.proofs.ComparisonLaws.{rows_start, rows_on, rows_differ, first_ends, second_ends, both_end}
 use native.Mathlib.Omega.{arith}
-use Prim.Native.Nat.{◌-◌}
 use Rattle.comparison.proofs.compare_rows.Goals as goal
 
 pub loop-row-init : goal.loop-row-init

@@ -1,6 +1,5 @@
 -- `cuts::total_size` meets its contract. The invariant: the first k sizes are added up.
 use borrow.Author.Rules.{rules}
-use Prim.Native.Nat.{◌-◌}
 use Rattle.cuts.proofs.ReadyLaws.{size-needs}
 use Rattle.cuts.proofs.total_size.Goals as goal
 

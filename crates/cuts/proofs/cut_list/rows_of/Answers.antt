@@ -1,6 +1,5 @@
 -- `cuts::cut_list::rows_of` meets its contract. The invariant: the first k numbers are added up.
 use borrow.Author.Rules.{rules}
-use Prim.Native.Nat.{◌-◌}
 use Rattle.cuts.proofs.WalkLaws.{rows-needs}
 use Rattle.cuts.proofs.cut_list.rows_of.Goals as goal
 

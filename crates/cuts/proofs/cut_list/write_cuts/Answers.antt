@@ -1,7 +1,6 @@
 -- `cuts::cut_list::write_cuts` meets its contract. The invariant: the first i runs have been passed.
 use native.Mathlib.Numerals.{add-one-le}
 use borrow.Author.Rules.{rules}
-use Prim.Native.Nat.{◌-◌}
 use Rattle.cuts.proofs.WalkLaws.{write-needs}
 use Rattle.cuts.proofs.cut_list.write_cuts.Goals as goal
 

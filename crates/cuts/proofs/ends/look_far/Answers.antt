@@ -1,5 +1,4 @@
 -- `cuts::ends::look_far` meets its contract. The invariant: the ends from that one on are looked at.
-use Prim.Native.Nat.{◌-◌}
 use mathlib.Core.Path.{refl, ◌∙◌}
 use native.Mathlib.Omega.{arith}
 use Rattle.cuts.proofs.LookLaws.{end_inside}

@@ -1,5 +1,4 @@
 -- `cuts::ends::look_near` meets its contract. The invariant: all ends looked at but the last are too soon.
-use Prim.Native.Nat.{◌-◌}
 use native.Mathlib.Omega.{arith}
 use Rattle.cuts.proofs.LookLaws.{runs_long, near_start, near_inside, near_more, near_end}
 use Rattle.cuts.proofs.ends.look_near.Goals as goal

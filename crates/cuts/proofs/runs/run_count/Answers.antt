@@ -1,6 +1,5 @@
 -- `cuts::runs::run_count` meets its contract. The invariant: the runs up to the set i are counted.
 use borrow.Author.Rules.{rules}
-use Prim.Native.Nat.{◌-◌}
 use Rattle.cuts.proofs.PressLaws.{count-needs}
 use Rattle.cuts.proofs.runs.run_count.Goals as goal
 

@@ -1,7 +1,7 @@
 -- `cuts::stretches::plan_stretches` meets its contract. The invariant: the rows before `at` are cut, in whole stretches.
 use borrow.Author.Rules.{rules}
 use native.Mathlib.Omega.{arith}
-use Prim.Native.Nat.{ℕ, ◌-◌, ◌^◌, ◌<◌}
+use Prim.Native.Nat.{ℕ, ◌^◌, ◌<◌}
 use lib.ListN.{get_or}
 use Rattle.cuts.proofs.StretchLaws.{stretch-needs, bytes_fit}
 use Rattle.cuts.proofs.stretches.plan_stretches.Goals as goal

@@ -1,6 +1,5 @@
 -- `cuts::stretches::stretch_end` meets its contract. The invariant: the marks up to i are the same.
 use borrow.Author.Rules.{rules}
-use Prim.Native.Nat.{◌-◌}
 use Rattle.cuts.proofs.StretchLaws.{end-needs}
 use Rattle.cuts.proofs.stretches.stretch_end.Goals as goal
 

@@ -1,6 +1,4 @@
 -- `element::name::next_in` meets its contract. The invariant: the names passed, and the place among those left, make the answer.
-use Prim.Native.Nat.{◌-◌}
-use mathlib.Core.Bool.{false, true}
 use mathlib.Core.Path.{◌∙◌, ◌≡◌, refl, sym}
 use native.Mathlib.Omega.{arith}
 use Rattle.element.proofs.Names.{index_end, index_no, index_yes}

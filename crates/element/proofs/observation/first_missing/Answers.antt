@@ -1,5 +1,5 @@
 -- `element::observation::first_missing` meets its contract. The invariant: what is left of the numbers decides.
-use Prim.Native.Nat.{◌-◌, zero-le}
+use Prim.Native.Nat.{zero-le}
 use mathlib.Core.Path.{◌∙◌, refl, sym}
 use native.Mathlib.Omega.{arith}
 use Rattle.element.proofs.Observations.{missing_end, missing_no, missing_yes}

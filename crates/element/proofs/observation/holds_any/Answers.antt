@@ -1,5 +1,5 @@
 -- `element::observation::holds_any` meets its contract. The invariant: what is left of the numbers decides.
-use Prim.Native.Nat.{◌-◌, zero-le}
+use Prim.Native.Nat.{zero-le}
 use mathlib.Core.Path.{◌∙◌, refl, sym}
 use native.Mathlib.Omega.{arith}
 use Rattle.element.proofs.Observations.{any_end, any_no, any_yes}

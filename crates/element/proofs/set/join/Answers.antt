@@ -1,5 +1,4 @@
 -- `element::set::join` meets its contract.
-use Prim.Native.Nat.{◌-◌}
 use mathlib.Core.Path.{refl, sym, ◌∙◌}
 use native.Mathlib.Omega.{arith}
 use Rattle.element.proofs.Sets.{joined_next, joined_end}

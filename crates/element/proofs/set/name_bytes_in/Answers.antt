@@ -2,7 +2,6 @@
 use mathlib.Core.Path.{◌∙◌}
 use native.Mathlib.Omega.{arith}
 use lib.Count.{trailing_le}
-use Prim.Native.Nat.{◌-◌}
 use Rattle.element.proofs.Sets.{adds_none, names_done, names_past, name_more, name_fits, left_less, name_lengths_length}
 use Rattle.element.proofs.set.name_bytes_in.Goals as goal
 

@@ -1,7 +1,6 @@
 -- `element::set::part_bytes` meets its contract.
 use native.Mathlib.Omega.{arith}
 use borrow.Author.Rules.{rules}
-use Prim.Native.Nat.{◌-◌}
 use Rattle.element.proofs.Sets.{add-needs, adds_fit, values_fit}
 use Rattle.element.proofs.set.part_bytes.Goals as goal
 

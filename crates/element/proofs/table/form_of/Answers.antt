@@ -131,5 +131,6 @@ returns-in-41 c = rw c.in-41.is
 
 pub returns-in-42 : goal.returns-in-42
 returns-in-42 c = rw c.in-42.is
+
 pub returns-in_default : goal.returns-in_default
 returns-in_default c = form_past c.args.index (omega arith)

@@ -3,7 +3,6 @@ use Rattle.inspect.proofs.BlockLaws.{fill_start, fill_on, fill_text, fill_room}
 use lib.ListN.{length, length-drop}
 use native.Mathlib.Omega.{arith}
 use mathlib.Core.Path.{ap}
-use Prim.Native.Nat.{◌-◌}
 use Rattle.inspect.proofs.blocks.fill_rows.Goals as goal
 
 pub loop-k-init : goal.loop-k-init

@@ -2,7 +2,6 @@
 use Rattle.inspect.proofs.BlockLaws.{block_on, block_here, block_end}
 use native.Mathlib.Omega.{arith}
 use mathlib.Core.Path.{sym, ◌∙◌}
-use Prim.Native.Nat.{◌-◌}
 use Rattle.inspect.proofs.blocks.first_length.Goals as goal
 
 pub returns-then-is_end : goal.returns-then-is_end

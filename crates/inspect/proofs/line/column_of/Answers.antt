@@ -1,6 +1,5 @@
 -- `inspect::line::column_of` meets its contract.
 use Rattle.inspect.proofs.LineLaws.{column_start, column_on, column_here, column_end}
-use Prim.Native.Nat.{◌-◌}
 use Rattle.inspect.proofs.line.column_of.Goals as goal
 
 pub loop-k-init : goal.loop-k-init

@@ -1,7 +1,6 @@
 -- `inspect::line::columns_before` meets its contract.
 use Rattle.inspect.proofs.LineLaws.{columns_start, columns_on, columns_last}
 use native.Mathlib.Omega.{arith}
-use Prim.Native.Nat.{◌-◌}
 use Rattle.inspect.proofs.line.columns_before.Goals as goal
 
 pub loop-k-init : goal.loop-k-init

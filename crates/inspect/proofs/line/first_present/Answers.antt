@@ -2,7 +2,6 @@
 use Rattle.inspect.proofs.LineLaws.{last_is, present_start, present_on, present_here, present_end}
 use native.Mathlib.Omega.{arith}
 use mathlib.Core.Path.{sym, ◌∙◌}
-use Prim.Native.Nat.{◌-◌}
 use Rattle.inspect.proofs.line.first_present.Goals as goal
 
 pub loop-element-init : goal.loop-element-init

@@ -1,7 +1,6 @@
 -- `inspect::line::first_wrong` meets its contract.
 use Rattle.inspect.proofs.LineLaws.{front_on, front_here, front_end}
 use mathlib.Core.Path.{sym, ◌∙◌}
-use Prim.Native.Nat.{◌-◌}
 use Rattle.inspect.proofs.line.first_wrong.Goals as goal
 
 pub loop-i-preserved : goal.loop-i-preserved

@@ -1,7 +1,6 @@
 -- `inspect::part::count` meets its contract.
 use Rattle.inspect.proofs.PartLaws.{marks_on, marks_end}
 use native.Mathlib.Omega.{arith}
-use Prim.Native.Nat.{◌-◌}
 use Rattle.inspect.proofs.part.count.Goals as goal
 
 pub overflow_add-n : goal.overflow_add-n

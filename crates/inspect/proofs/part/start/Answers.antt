@@ -1,7 +1,6 @@
 -- `inspect::part::start` meets its contract.
 use Rattle.inspect.proofs.PartLaws.{start_first, start_on, start_last}
 use native.Mathlib.Omega.{arith}
-use Prim.Native.Nat.{◌-◌}
 use Rattle.inspect.proofs.part.start.Goals as goal
 
 pub loop-k-init : goal.loop-k-init

@@ -1,7 +1,6 @@
 -- `inspect::table::row` meets its contract.
 use Rattle.inspect.proofs.TableLaws.{row_start, row_here, row_on, row_end}
 use mathlib.Core.Path.{sym, ◌∙◌}
-use Prim.Native.Nat.{◌-◌}
 use Rattle.inspect.proofs.table.row.Goals as goal
 
 pub loop-k-init : goal.loop-k-init

@@ -4,7 +4,6 @@ use Rattle.night.proofs.ListLaws.{look_start, look_on, look_bad, look_end}
 use Rattle.night.specs.Record.{is_record}
 use native.Mathlib.Omega.{arith}
 use mathlib.Core.Path.{ap, sym, ◌∙◌}
-use Prim.Native.Nat.{◌-◌}
 use Rattle.night.proofs.list.first_bad.Goals as goal
 
 pub loop-number-init : goal.loop-number-init

@@ -1,5 +1,5 @@
 -- `night::noted::write_with` meets its contract.
-use Rattle.night.proofs.AnswerLaws.{write_refused, accepted_one, rows_kept}
+use Rattle.night.proofs.AnswerLaws.{write_refused}
 use Rattle.report.proofs.AnswerLaws.{refused_of}
 use Rattle.night.proofs.noted.write_with.Goals as goal
 

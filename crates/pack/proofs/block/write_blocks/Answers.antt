@@ -1,5 +1,4 @@
 -- `pack::block::write_blocks` meets its contract. The invariant: the blocks of the first k cuts are written.
-use Prim.Native.Nat.{◌-◌}
 use native.Mathlib.Omega.{arith}
 use Rattle.pack.proofs.WritingLaws.{write_length}
 use Rattle.pack.proofs.BlockLaws.{blocks_begin, blocks_end, block_inside, block_room, block_asks, blocks_next}

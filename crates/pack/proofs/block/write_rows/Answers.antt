@@ -1,5 +1,4 @@
 -- `pack::block::write_rows` meets its contract. The invariant: the first i rows are written.
-use Prim.Native.Nat.{◌-◌}
 use native.Mathlib.Omega.{arith}
 use Rattle.pack.proofs.WritingLaws.{write_begin, write_length, write_next}
 use Rattle.pack.proofs.BlockLaws.{rows_turn, row_asks, row_room, rows_end}

@@ -1,7 +1,6 @@
 -- `pack::column::list_in` meets its contract. The invariant: of the first k of the column order, those in the set are listed.
-use Prim.Native.Nat.{ℕ, ◌-◌, ◌<◌}
+use Prim.Native.Nat.{ℕ, ◌<◌}
 use mathlib.Core.List.{List}
-use mathlib.Core.Logic.{⊎_elim}
 use mathlib.Core.Path.{sym, ap, ◌∙◌}
 use native.Mathlib.Omega.{arith}
 use lib.ListN.{get_or}
@@ -64,8 +63,8 @@ loop-k-preserved c =
     let length_is = order_length c.args.order.now c.requires.0 in
     let next = ap (λ (l : List ℕ). get_or l loop.k 0) c.requires.0 in
     elim c.if-is_in.branch [
-    then-is_in w ↦
-      rw (w.columns-is, w.n-is) (list_in loop.invariant (omega (arith, length_is, c.loop-k-test.true)) _ next (sym c.is_in.ensures ∙ w.if-is_in.true))
-    | else-is_in w ↦
-      rw (w.columns-is, w.n-is) (list_out loop.invariant (omega (arith, length_is, c.loop-k-test.true)) _ next (sym c.is_in.ensures ∙ w.if-is_in.false))
+      | then-is_in w ↦
+          rw (w.columns-is, w.n-is) (list_in loop.invariant (omega (arith, length_is, c.loop-k-test.true)) _ next (sym c.is_in.ensures ∙ w.if-is_in.true))
+      | else-is_in w ↦
+          rw (w.columns-is, w.n-is) (list_out loop.invariant (omega (arith, length_is, c.loop-k-test.true)) _ next (sym c.is_in.ensures ∙ w.if-is_in.false))
     ]

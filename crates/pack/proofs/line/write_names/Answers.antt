@@ -1,7 +1,6 @@
 -- `pack::line::write_names` meets its contract. The invariant: the first k names are written.
 use Rattle.pack.proofs.WritingLaws.{write_length}
 use Rattle.pack.proofs.FieldLaws.{line_room, line_fits}
-use Prim.Native.Nat.{◌-◌}
 use native.Mathlib.Omega.{arith}
 use lib.ListN.{get_or, length-append}
 use Rattle.element.specs.Table.{name_of}

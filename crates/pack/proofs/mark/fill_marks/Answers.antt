@@ -1,5 +1,4 @@
 -- `pack::mark::fill_marks` meets its contract.
-use Prim.Native.Nat.{◌-◌}
 use native.Mathlib.Omega.{arith}
 use Rattle.pack.proofs.MarkLaws.{marking_none, marking_more, marking_all}
 use Rattle.pack.proofs.mark.fill_marks.Goals as goal

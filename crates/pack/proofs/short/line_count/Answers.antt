@@ -1,5 +1,4 @@
 -- `pack::short::line_count` meets its contract. The invariant: the LFs passed and the LFs left are those of the report.
-use Prim.Native.Nat.{◌-◌}
 use native.Mathlib.Omega.{arith}
 use Rattle.pack.proofs.RowCounts.{feeds_next, feeds_end}
 use Rattle.pack.proofs.short.line_count.Goals as goal

@@ -1,5 +1,4 @@
 -- `pack::standing::line_start` meets its contract. The invariant: k columns are passed.
-use Prim.Native.Nat.{◌-◌}
 use native.Mathlib.Omega.{arith}
 use Rattle.pack.proofs.standing.line_start.Goals as goal
 

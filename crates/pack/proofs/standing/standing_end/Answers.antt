@@ -1,5 +1,4 @@
 -- `pack::standing::standing_end` meets its contract. The invariant: the first k fields stand from the start up to `at`.
-use Prim.Native.Nat.{◌-◌}
 use mathlib.Core.Path.{refl}
 use native.Mathlib.Omega.{arith}
 use Rattle.pack.specs.Inner.{value_in}

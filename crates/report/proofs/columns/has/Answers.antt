@@ -1,4 +1,3 @@
-use Prim.Native.Nat.{◌-◌}
 use native.Mathlib.Omega.{arith}
 use Rattle.report.proofs.ColumnLaws.{member_here, member_on, member_end}
 use Rattle.report.proofs.columns.has.Goals as goal

@@ -1,5 +1,4 @@
 use lib.Seq.{length-take-le}
-use Prim.Native.Nat.{◌-◌}
 use mathlib.Core.Path.{sym, ◌∙◌}
 use native.Mathlib.Omega.{arith}
 use Rattle.report.proofs.ColumnLaws.{name_start, name_unknown, name_twice, name_room, name_found, name_on}

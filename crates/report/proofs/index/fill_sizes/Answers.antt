@@ -1,5 +1,4 @@
 -- `report::index::fill_sizes` meets its contract. The invariant: the sizes of the rows passed are filled in.
-use Prim.Native.Nat.{◌-◌}
 use mathlib.Core.Path.{◌≡◌}
 use native.Mathlib.Omega.{arith}
 use Rattle.report.specs.Index.{sizes_in}

@@ -1,7 +1,3 @@
-use mathlib.Core.Path.{◌≡◌}
-use mir.Syntax.{w64}
-use mir.Val.{to_z, of_z}
-use mir.Facts.{to_z-of_z}
 use Rattle.report.proofs.place.worth.Goals as goal
 
 pub returns-in-Bad : goal.returns-in-Bad

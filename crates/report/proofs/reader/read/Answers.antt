@@ -1,4 +1,3 @@
-use Prim.Native.Nat.{◌-◌}
 use mathlib.Core.Path.{refl}
 use native.Mathlib.Omega.{arith}
 use Rattle.report.proofs.ReaderLaws.{read_start, read_long, read_ends, read_cut, line_fits, line_asks, read_bad, read_next, read_row}
