@@ -4,7 +4,7 @@
 
 runs both on the cases of the case file and on COUNT reports with damage made by chance (20,000 if not
 said), each with lists of cuts and night lists, and stops at the first difference. It needs an x86-64 machine
-with gcc, and the static library that `rt staticlib kyrrbolda` writes. reference/README.md says how the case
+with gcc, and the static library that `rt lib` in crates/kyrrbolda writes. reference/README.md says how the case
 file is made.
 """
 
@@ -27,7 +27,7 @@ import reports  # noqa: E402
 
 GUARD = 64
 FENCE = bytes(range(0xC0, 0xC0 + GUARD))  # stands before and after what is lent
-ARCHIVE = HERE.parent / "target" / "staticlib" / "libkyrrbolda.a"
+ARCHIVE = HERE.parent / "crates" / "kyrrbolda" / "out" / "libkyrrbolda.a"
 KINDS = {"no value": 0, "absent": 1, "whole": 2, "decimal": 3, "time": 4, "angle": 5, "scaled": 6}
 LOW = 10_000_000_000  # a covariance's whole number is high times this and low
 LARGEST = 65_535  # the largest number that a list of cuts can hold

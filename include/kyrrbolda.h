@@ -4,7 +4,7 @@
  * element, packs a report into the shortest one that holds the same observations, by two calls (the length first), writes and
  * reads night lists, and names the elements. docs/PROMISES.md says what is proved of each function.
  *
- * Link target/staticlib/libkyrrbolda.a, which `rt staticlib kyrrbolda` writes for x86-64.
+ * Link crates/kyrrbolda/out/libkyrrbolda.a, which `rt lib` in crates/kyrrbolda writes for x86-64.
  *
  * For every call:
  *  - Any bytes of any length may be handed in. A pointer is never null: an empty report, list or output is a valid pointer with
@@ -14,7 +14,7 @@
  *  - No memory is kept, allocated or freed; calls from several threads at once do not disturb one another.
  *  - Stack, the return address included: 2,048 bytes are enough for kyrr_check, kyrr_show, kyrr_value and kyrr_night_write, 76,800
  *    for kyrr_length and for kyrr_write, of one row as of 256, and 512 for kyrr_night_check, kyrr_night_read, kyrr_name and
- *    kyrr_element. Measured and not proved, with the library as `rt staticlib` builds it with LLVM 22.1.8; docs/SPEED.md has the
+ *    kyrr_element. Measured and not proved, with the library as `rt lib` builds it with LLVM 22.1.8; docs/SPEED.md has the
  *    exact figures. A program that binds memcpy and memset only at their first call needs 4,096 more for that.
  *  - `refused` is 0, or the number of the refusal (kyrr_refusal below); `line` and `place` say where it is. Where a call is refused
  *    the other fields are 0 and no lent byte has changed. Where it is not, `line` and `place` are 0. kyrr_name and kyrr_element
