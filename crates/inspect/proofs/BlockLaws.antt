@@ -10,8 +10,8 @@ use lib.ListN.{length, take, drop, get_or, set, drop_of_length-le, length-drop, 
 use lib.Seq.{drop-cons, drop-drop, take-suc-set, drop-set-lt}
 use Rattle.text.specs.Output.{over}
 use Rattle.report.specs.Report.{is_hash}
-use Rattle.inspect.specs.Part.{marks_in}
-use Rattle.inspect.specs.Blocks.{block_length, rows_in, block_rows}
+use Rattle.inspect.specs.Part.{part_start, marks_in}
+use Rattle.inspect.specs.Blocks.{block_length, rows_in, block_rows, block_start, head_length}
 
 -- A text begins with `#` from a place on where it has one there.
 hash_at : (s : List ℕ) (j : ℕ) → is_hash (drop j s) ≡ eqb (get_or s j 0) 35
@@ -121,3 +121,25 @@ pub fill_room : {text rows₀ rows : List ℕ} {start k : ℕ} → Filling text 
     → (k ≡ length (block_rows (length rows₀) text)) × (rows ≡ over (block_rows (length rows₀) text) rows₀) × (k ≤ length rows)
 fill_room {text} {rows₀} {rows} {start} {k} v h =
     fill_end v (let z : length rows₀ - k ≡ 0 = omega (arith, v.long) in rw z (rows_full (drop start text)))
+
+-- The start of the first block, of the next one, and of the one that was looked for.
+pub first_start : (text : List ℕ) → 0 ≡ block_start text 0
+unfolding block_start
+first_start text = refl
+
+pub next_start : (text rest : List ℕ) (k at size : ℕ) → at ≡ block_start text k → rest ≡ drop at text → size ≡ block_length rest
+    → at + size ≡ block_start text (k + 1)
+unfolding block_start
+next_start text rest k at size e r n = rw (add-one, n, r, e)
+
+pub last_start : (text : List ℕ) (k number at : ℕ) → at ≡ block_start text k → k ≤ number → number ≤ k → at ≡ block_start text number
+last_start text k number at e h l = let q : k ≡ number = omega arith in rw (← q) e
+
+-- A block ends in the text.
+pub start_within : (text rest : List ℕ) (at size : ℕ) → at ≤ length text → rest ≡ drop at text → size ≤ length rest → at + size ≤ length text
+start_within text rest at size h r n = omega (arith, ap (λ (x : List ℕ). length x) r, length-drop at text)
+
+-- The first two lines from a block's start on.
+pub head_is : (text rest : List ℕ) (number at size : ℕ) → at ≡ block_start text number → rest ≡ drop at text → size ≡ part_start rest 2 10
+    → size ≡ head_length text number
+head_is text rest number at size e r n = n ∙ rw (r, e)

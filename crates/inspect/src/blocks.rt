@@ -1,10 +1,11 @@
-// The blocks of a text: where each ends, and how many rows it has.
+// The blocks of a text: where each starts and ends, how many rows it has, and how long its first two lines are.
 ghost use Rattle.std.specs.Prelude.{◌≡◌, ◌-◌, ◌≤◌, ◌&&◌, eqb, length};
 ghost use Rattle.text.specs.Lines.{line_feed};
 ghost use Rattle.text.specs.Output.{over};
 ghost use Rattle.inspect.specs.Part.{marks_in};
-ghost use Rattle.inspect.specs.Blocks.{block_length, block_rows};
+ghost use Rattle.inspect.specs.Blocks.{block_length, block_rows, block_start, head_length};
 
+use crate::part;
 use crate::part::count;
 use text::part::{at, front, tail};
 
@@ -25,6 +26,26 @@ pub fn fill_rows(text: &[u8], rows: &mut [usize]) -> usize
         k += 1;
     }
     k
+}
+
+// How many bytes the version line and the column line of a text's block have, the blocks counted from 0.
+pub fn head_length(text: &[u8], number: usize) -> usize
+    ensures { result ≡ head_length text.now number }
+{
+    part::start(tail(text, start(text, number)), 2, b'\n')
+}
+
+// Where the block of a number, counted from 0, starts in a text; past the last one the end of the text.
+fn start(text: &[u8], number: usize) -> usize
+    ensures { result ≡ block_start text.now number }
+{
+    let mut at: usize = 0;
+    let mut k: usize = 0;
+    while k < number {
+        at += first_length(tail(text, at));
+        k += 1;
+    }
+    at
 }
 
 // The length of a text's first block: up to the next line that begins with `#`, or to the end of the text.

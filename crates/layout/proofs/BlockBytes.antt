@@ -3,7 +3,7 @@
 use Prim.Native.Nat.{ℕ, zero, suc, ◌<◌, ◌+◌, ◌*◌, ◌/◌, ◌%◌, ◌^◌, max}
 use mathlib.Core.Path.{◌≡◌, refl, ap, sym, fun_ext, ◌∙◌}
 use mathlib.Core.Bool.{Bool, true, false, cond, ◌||◌, true≢false}
-use mathlib.Core.List.{List, [], ◌∷◌, ◌++◌, map}
+use mathlib.Core.List.{List, [], ◌∷◌, ◌++◌, map, append_assoc}
 use native.Mathlib.Nat.{div-one, zero-div, div-div-eq-div-mul, pow-succ', suc-mul}
 use native.Mathlib.Omega.{arith}
 use lib.Arith.{digits_mod}
@@ -15,11 +15,13 @@ use Rattle.text.proofs.Bools.{bools}
 use Rattle.element.specs.Table.{elements, name_of, upward, column_order}
 use Rattle.element.specs.Observation.{Observation, is_present, bit, set_of}
 use Rattle.element.specs.Set.{has, length_if, bytes_in, name_lengths, name_bytes}
+use Rattle.report.specs.Report.{version_line}
 use Rattle.cuts.specs.Cuts.{cost}
 use Rattle.cuts.specs.Block.{Row, union, value_bytes, row_count, bytes_of, block_bytes}
 use Rattle.cuts.specs.Plan.{Marked, marked_bytes}
 use Rattle.cuts.proofs.CutLaws.{cost_map}
-use Rattle.layout.specs.Written.{is_anywhere, passing, columns_of, barred, line_of, names_at, values_at, data_lines, block_text, written, Valid}
+use Rattle.layout.specs.Written.{is_anywhere, passing, columns_of, line_of, names_at, values_at, data_lines, block_text, written, Valid}
+use Rattle.layout.specs.Seam.{head_text}
 use Rattle.layout.specs.Cost.{size_of, as_row, as_marked}
 use Rattle.element.proofs.Sets.{has_set, set_below, name_lengths_length, name_length}
 use Rattle.layout.proofs.ColumnLaws.{weigh, passing_weighs, same_weight, one_weighs, upward_weighs, order_weighs, columns_present}
@@ -185,32 +187,43 @@ data_length c cs all (o ∷ os) q r u =
       data_length c cs all os q r.1 u.1,
     )
 
--- The version line has 15 bytes.
-head_length : (c : ℕ) (cs : List ℕ) (rows : List Observation) → columns_of rows ≡ c ∷ cs
-    → length (block_text rows) ≡ 15 + length (line_of (names_at (c ∷ cs)) ++ data_lines (c ∷ cs) rows)
-unfolding block_text line_of barred
-head_length c cs rows q = rw q (omega arith)
+-- A block is its version line and its column line, and then its data lines.
+pub head_first : (rows : List Observation) → block_text rows ≡ head_text rows ++ data_lines (columns_of rows) rows
+unfolding block_text head_text
+head_first rows = sym (append_assoc (line_of (version_line ∷ [])) (line_of (names_at (columns_of rows))) (data_lines (columns_of rows) rows))
+
+-- The first two by the columns: 15, and a name and one for each.
+pub head_length_lem : (o : Observation) (os : List Observation) → Right o
+    → length (head_text (o ∷ os)) ≡ 15 + weigh (λ e. length (name_of e)) (columns_of (o ∷ os)) + length (columns_of (o ∷ os))
+unfolding head_text size_of
+head_length_lem o os r = let f = first_column o os r in go f.0 f.1 f.3
+  where
+    go : (c : ℕ) (cs : List ℕ) → columns_of (o ∷ os) ≡ c ∷ cs
+        → length (head_text (o ∷ os)) ≡ 15 + weigh (λ e. length (name_of e)) (columns_of (o ∷ os)) + length (columns_of (o ∷ os))
+    go c cs q =
+        rw q (omega (
+          arith,
+          length-append (line_of (version_line ∷ [])) (line_of (names_at (c ∷ cs))),
+          line_length version_line [],
+          line_length (name_of c) (names_at cs),
+          map_size name_of (c ∷ cs),
+          length-map (c ∷ cs) name_of,
+        ))
 
 -- A block by its columns: 15, a name and one for each, and the data lines.
 pub block_length_lem : (o : Observation) (os : List Observation) → AllRight (o ∷ os)
     → length (block_text (o ∷ os))
     ≡ 15 + weigh (λ e. length (name_of e)) (columns_of (o ∷ os)) + length (columns_of (o ∷ os)) + rows_bytes (length (columns_of (o ∷ os))) (o ∷ os)
-block_length_lem o os r = let f = first_column o os r.0 in go f.0 f.1 f.3
-  where
-    go : (c : ℕ) (cs : List ℕ) → columns_of (o ∷ os) ≡ c ∷ cs
-        → length (block_text (o ∷ os))
-        ≡ 15 + weigh (λ e. length (name_of e)) (columns_of (o ∷ os)) + length (columns_of (o ∷ os)) + rows_bytes (length (columns_of (o ∷ os))) (o ∷ os)
-    go c cs q =
-        let n : length (block_text (o ∷ os)) ≡ 15 + length (line_of (names_at (c ∷ cs)) ++ data_lines (c ∷ cs) (o ∷ os)) = head_length c cs (o ∷ os) q in
-        rw q (omega (
-          arith,
-          n,
-          length-append (line_of (names_at (c ∷ cs))) (data_lines (c ∷ cs) (o ∷ os)),
-          line_length (name_of c) (names_at cs),
-          map_size name_of (c ∷ cs),
-          length-map (c ∷ cs) name_of,
-          data_length c cs (o ∷ os) (o ∷ os) q r (block_under (o ∷ os) r),
-        ))
+block_length_lem o os r =
+    let f = first_column o os r.0 in
+    let n : length (data_lines (columns_of (o ∷ os)) (o ∷ os)) ≡ rows_bytes (length (columns_of (o ∷ os))) (o ∷ os) =
+    rw f.3 (data_length f.0 f.1 (o ∷ os) (o ∷ os) f.3 r (block_under (o ∷ os) r)) in
+    omega (
+      arith,
+      ap (λ (text : List ℕ). length text) (head_first (o ∷ os)),
+      length-append (head_text (o ∷ os)) (data_lines (columns_of (o ∷ os)) (o ∷ os)),
+      head_length_lem o os r.0,
+    )
 
 -- Values, plus rows times columns.
 rows_bytes_lem : (n : ℕ) (rows : List Observation) → rows_bytes n rows ≡ value_bytes (map as_row rows) + row_count (map as_row rows) * n

@@ -7,7 +7,13 @@ pub mod BlockBytes
 pub mod NoShorter
 pub mod Unique
 pub mod Packed
+pub mod SeamLaws
+pub mod TurnLaws
+pub mod JoinedCuts
+pub mod Nights
+pub mod Joined
 pub mod Empty
 pub mod Computed
 pub mod SpecimenPacks
+pub mod SpecimenJoins
 pub mod Shams

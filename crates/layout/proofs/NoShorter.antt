@@ -48,7 +48,7 @@ lines_size (b ∷ t) =
 -- The column line.
 
 -- A name and one for what ends it.
-abbrev column_bytes : ℕ → ℕ
+abbrev pub column_bytes : ℕ → ℕ
 column_bytes e = suc (length (name_of e))
 
 -- A name that is found stands at its place.
@@ -237,7 +237,7 @@ rows_mono m n [] h = omega arith
 rows_mono m n (o ∷ os) h = omega (arith, rows_mono m n os h)
 
 -- A written block has no more bytes than its rows under any columns.
-block_least : (o : Observation) (os : List Observation) (columns : List ℕ) → AllRight (o ∷ os)
+pub block_least : (o : Observation) (os : List Observation) (columns : List ℕ) → AllRight (o ∷ os)
     → ((e : ℕ) → is_anywhere (o ∷ os) e ≡ true → member e columns ≡ true)
     → length (block_text (o ∷ os)) ≤ 15 + weigh column_bytes columns + rows_bytes (length columns) (o ∷ os)
 block_least o os columns r u =

@@ -4,21 +4,26 @@ use Prim.Native.Nat.{ℕ, ◌≤◌}
 use mathlib.Core.Path.{◌≡◌, refl, ap, sym, ◌∙◌}
 use mathlib.Core.List.{List, [], ◌∷◌, map}
 use native.Mathlib.Omega.{arith}
+use lib.Dec.{leb}
 use lib.ListN.{length}
+use borrow.Author.Tests.{leb-true, leb-false}
+use Rattle.text.proofs.Bools.{bools}
 use Rattle.element.specs.Observation.{Observation, set_of}
-use Rattle.report.specs.Report.{accepted, read}
+use Rattle.report.specs.Report.{text_limit, accepted, read}
+use Rattle.report.proofs.Join.{read_accepted}
 use Rattle.cuts.specs.Cuts.{same_mark, Cuts, Wanted}
 use Rattle.cuts.specs.Plan.{Marked, marked_rows, marked_bytes}
 use Rattle.cuts.specs.Cheapest.{chosen}
 use Rattle.cuts.proofs.CheapestLaws.{chosen_wanted}
 use Rattle.cuts.proofs.CutLaws.{cuts_to, cuts_from, stretch_map}
 use Rattle.layout.specs.Written.{mark_of, may_follow, written, Valid}
-use Rattle.layout.specs.Packed.{ShortestCuts}
+use Rattle.layout.specs.Packed.{ShortestCuts, PackedIs}
 use Rattle.layout.specs.Cost.{size_of, as_marked}
 use Rattle.layout.proofs.Accepted.{AllRight, accepted_right}
-use Rattle.layout.proofs.ReadsBack.{reads_back_shorter}
+use Rattle.layout.proofs.ReadsBack.{reads_back, reads_back_shorter}
 use Rattle.layout.proofs.BlockBytes.{written_bytes}
 use Rattle.layout.proofs.NoShorter.{Cutting, no_shorter}
+use Rattle.layout.proofs.Unique.{packed_least}
 
 -- The rows that the search is given: the marks, the sets and the sizes of the observations.
 pub rows_are : (L : List Observation) → marked_rows (map mark_of L) (map set_of L) (map size_of L) ≡ map as_marked L
@@ -61,3 +66,11 @@ shortest t L cuts h w =
 -- Every accepted report has them.
 pub has_cuts : (t : List ℕ) (L : List Observation) → read t ≡ accepted L → ShortestCuts L (chosen marked_bytes together (map as_marked L))
 has_cuts t L h = shortest t L _ h (chosen_wanted marked_bytes together (map as_marked L))
+
+-- However the observations of an accepted report are cut, what is written is no shorter than their packed report.
+pub least_written : (t : List ℕ) (L : List Observation) → read t ≡ accepted L → {text : List ℕ} → PackedIs L text
+    → (cuts : List ℕ) → Valid cuts L → length text ≤ length (written cuts L)
+least_written t L h {text} p cuts v =
+    bools (leb (length (written cuts L)) text_limit)
+    (λ e. packed_least p (written cuts L) (reads_back t L cuts h v (leb-true (length (written cuts L)) text_limit e)))
+    (λ e. omega (arith, packed_least p t h, (read_accepted t L h).0, leb-false (length (written cuts L)) text_limit e))

@@ -1,3 +1,4 @@
 pub mod Written
 pub mod Packed
+pub mod Seam
 pub mod Cost

@@ -183,7 +183,7 @@ rows_anywhere (suc k) o h e = rw (rows_anywhere k o h e) (or_twice (is_present (
     or_twice true = refl
     or_twice false = refl
 
--- trkSub, mode, stn, obs_time, ra, dec, astCat.
+-- trkSub, mode, stn, obsTime, ra, dec, astCat.
 abbrev seven : List ℕ
 seven = 3 ∷ 6 ∷ 7 ∷ 14 ∷ 16 ∷ 17 ∷ 21 ∷ []
 

@@ -2,6 +2,7 @@
 pub mod Unique
 pub mod Settled
 pub mod Pair
+pub mod ThreeLengths
 pub mod Shams
 -- Writing into the rest of the lent output.
 pub mod WritingLaws

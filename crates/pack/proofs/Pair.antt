@@ -26,7 +26,7 @@ use Rattle.pack.proofs.Unique.{refused≢given}
 use Rattle.pack.proofs.Settled.{write_settled}
 
 -- What the first call gave: the length and the number of cuts of a packed report, and these cuts.
-record Gave (outcome : Outcome) (before after : List ℕ) (n blocks : ℕ) : Type 0 where
+pub record Gave (outcome : Outcome) (before after : List ℕ) (n blocks : ℕ) : Type 0 where
   pub observations : List Observation
   pub is : outcome ≡ accepted observations
   pub cuts : List ℕ
@@ -58,7 +58,7 @@ cuts_few (zero ∷ ks) (o ∷ os) v = absurd v
 cuts_few (suc k ∷ ks) (o ∷ os) v = omega (arith, cuts_few ks (drop k os) v.1, length-drop k os)
 
 module _ {report list listed : List ℕ} {n blocks : ℕ} (first : MeasurePromised report list listed (given (n, blocks))) where
-  found : Gave (read report) list listed n blocks
+  pub found : Gave (read report) list listed n blocks
   found = gave (read report) first.case
 
   -- The packed report is no longer than the report, and has no more blocks than a report can have rows: a list of so many numbers always has
@@ -75,7 +75,7 @@ module _ {report list listed : List ℕ} {n blocks : ℕ} (first : MeasurePromis
   gave_first = found first
 
   -- The list begins with the cuts.
-  cuts_are : take blocks listed ≡ gave_first.cuts
+  pub cuts_are : take blocks listed ≡ gave_first.cuts
   unfolding over
   cuts_are =
       let cuts : List ℕ = gave_first.cuts in

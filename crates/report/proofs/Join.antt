@@ -170,7 +170,7 @@ read_moved (line l ls) s n k m j L h b = by_step (step s k l) refl (λ t k' j' M
     by_step (bad kind p) e ih h = absurd (refused≢accepted h)
 
 -- Where a block may begin, a text that is accepted from its beginning is accepted.
-begin_anywhere : (ls : Lines) (s : State) (n k : ℕ) (L : List Observation) → opened s.need ≡ opened Need.Version
+pub begin_anywhere : (ls : Lines) (s : State) (n k : ℕ) (L : List Observation) → opened s.need ≡ opened Need.Version
     → read_from begin 1 0 ls ≡ accepted L → k + length L ≤ row_limit → read_from s n k ls ≡ accepted L
 unfolding read_from step
 begin_anywhere end s n k L o h b = at_end_lem s.need o
@@ -223,7 +223,7 @@ join_lines (line l ls) s n k A B rest h g b =
     by_step (bad kind p) ih h = absurd (refused≢accepted h)
 
 -- Lines that are accepted each have their LF.
-accepted_whole : (ls : Lines) (s : State) (n k : ℕ) (A : List Observation) → read_from s n k ls ≡ accepted A → is_whole ls ≡ true
+pub accepted_whole : (ls : Lines) (s : State) (n k : ℕ) (A : List Observation) → read_from s n k ls ≡ accepted A → is_whole ls ≡ true
 unfolding read_from
 accepted_whole end s n k A h = refl
 accepted_whole (cut l) s n k A h = absurd (refused≢accepted h)

@@ -1,4 +1,4 @@
--- Which forms never give 8: perm_id, prov_id, art_sat, mode, sys, obs_time, ra, dec and com, for any text.
+-- Which forms never give 8: permID, provID, artSat, mode, sys, obsTime, ra, dec and com, for any text.
 use Prim.Native.Nat.{ℕ}
 use mathlib.Core.Path.{◌≡◌}
 use mathlib.Core.Bool.{Bool, true, false, cond, ◌&&◌}

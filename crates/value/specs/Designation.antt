@@ -1,4 +1,4 @@
--- perm_id, prov_id and art_sat.
+-- permID, provID and artSat.
 use Prim.Native.Char.{code}
 use Rattle.std.specs.Prelude.{ℕ, Bool, not, cond, ◌&&◌, ◌||◌, List, eqb, leb, length, get_or, take, drop}
 use Rattle.text.specs.Bytes.{bytes}

@@ -1,4 +1,4 @@
--- obs_time: `yyyy-mm-ddThh:mm:ss`, optionally a point and 1 to 6 digits, then `Z`.
+-- obsTime: `yyyy-mm-ddThh:mm:ss`, optionally a point and 1 to 6 digits, then `Z`.
 use Prim.Native.Char.{code}
 use Rattle.std.specs.Prelude.{ℕ, ◌+◌, ◌-◌, ◌*◌, ◌^◌, Bool, cond, ◌&&◌, ◌||◌, List, eqb, leb, ℤ, get_or, drop}
 use Rattle.text.specs.Bytes.{bytes}
