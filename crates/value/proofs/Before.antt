@@ -10,19 +10,20 @@ use lib.IntN.{pos}
 use lib.ListN.{length, get_or, drop, length-drop, get_or-eq_default}
 use lib.Seq.{get_or-drop}
 use borrow.Author.Tests.{eqb-true, eqb-false, lt-ltb, ltb-true, ltb-false}
+use Rattle.std.specs.Prelude.{Result, Ok, Err, is_ok}
 use Rattle.text.specs.Class.{is_only}
 use Rattle.text.specs.Digits.{number}
 use Rattle.text.specs.declared.class.Class.TheVariants.{Digit}
 use Rattle.text.proofs.Bools.{bools, both, never}
 use Rattle.text.proofs.Classes.{leading_le}
+use Rattle.refusal.specs.declared.Kind.{Kind}
 use Rattle.refusal.specs.declared.Kind.TheVariants.{TooWide, WrongForm, OutOfRange}
 use Rattle.value.specs.Angle.{is_degrees, is_right_ascension, units, right_ascension, declination}
-use Rattle.value.specs.Check.{is_fine}
 use Rattle.value.specs.Decimal.{is_pointed, is_decimal, places, is_too_wide, Range, Any, Positive, Unit, is_within, decimal_of, decimal_in, decimal, correlation}
 use Rattle.value.specs.Numeral.{digits, is_digits, no_leading_zero}
 use Rattle.value.specs.Sign.{is_minus, bare, with_sign}
 use Rattle.value.specs.declared.Value.{Value}
-use Rattle.value.specs.declared.Value.TheVariants.{Bad, Angle}
+use Rattle.value.specs.declared.Value.TheVariants.{Angle}
 
 -- A point and at least one digit.
 unfoldable pub is_pointed_before : List ℕ → Bool
@@ -33,19 +34,19 @@ unfoldable pub is_decimal_before : List ℕ → Bool
 is_decimal_before text = is_digits text || (ltb 0 (digits text) && is_pointed_before (drop (digits text) text))
 
 -- The rules over it.
-unfoldable pub decimal_in_before : Range → ℕ → Bool → List ℕ → Value
+unfoldable pub decimal_in_before : Range → ℕ → Bool → List ℕ → Result Value Kind
 decimal_in_before range width signed text =
-    cond (is_too_wide width (bare signed text)) (Bad TooWide)
+    cond (is_too_wide width (bare signed text)) (Err TooWide)
     (cond (is_decimal_before (bare signed text))
     (cond (is_within range (number 0 (bare signed text)) (places (bare signed text)))
-    (decimal_of text (bare signed text))
-    (Bad OutOfRange))
-    (Bad WrongForm))
+    (Ok (decimal_of text (bare signed text)))
+    (Err OutOfRange))
+    (Err WrongForm))
 
-unfoldable pub decimal_before : ℕ → Bool → List ℕ → Value
+unfoldable pub decimal_before : ℕ → Bool → List ℕ → Result Value Kind
 decimal_before width signed text = decimal_in_before (cond signed Any Positive) width signed text
 
-unfoldable pub correlation_before : List ℕ → Value
+unfoldable pub correlation_before : List ℕ → Result Value Kind
 correlation_before text = decimal_in_before Unit 13 true text
 
 unfoldable pub is_degrees_before : ℕ → List ℕ → Bool
@@ -54,17 +55,17 @@ is_degrees_before most text = is_decimal_before text && leb (digits text) most &
 unfoldable pub is_right_ascension_before : List ℕ → Bool
 is_right_ascension_before text = is_degrees_before 3 text && (ltb (digits text) 3 || ltb (get_or text 0 0) (code "4"))
 
-unfoldable pub right_ascension_before : List ℕ → Value
+unfoldable pub right_ascension_before : List ℕ → Result Value Kind
 right_ascension_before text =
     cond (is_right_ascension_before text)
-    (cond (ltb (units text) 360000000000) (Angle (pos (units text))) (Bad OutOfRange))
-    (Bad WrongForm)
+    (cond (ltb (units text) 360000000000) (Ok (Angle (pos (units text)))) (Err OutOfRange))
+    (Err WrongForm)
 
-unfoldable pub declination_before : List ℕ → Value
+unfoldable pub declination_before : List ℕ → Result Value Kind
 declination_before text =
     cond (is_degrees_before 2 (bare true text))
-    (cond (leb (units (bare true text)) 90000000000) (Angle (with_sign (is_minus text) (units (bare true text)))) (Bad OutOfRange))
-    (Bad WrongForm)
+    (cond (leb (units (bare true text)) 90000000000) (Ok (Angle (with_sign (is_minus text) (units (bare true text))))) (Err OutOfRange))
+    (Err WrongForm)
 
 -- A point and at least one digit are a point and digits, and the text has more than a point.
 pointed_kept : (text : List ℕ) → is_pointed_before (drop (digits text) text) ≡ true
@@ -142,45 +143,45 @@ unfolding is_right_ascension_before is_right_ascension
 ascension_form_kept text = beside _ _ (ltb (digits text) 3 || ltb (get_or text 0 0) 52) (degrees_form_kept 3 text)
 
 -- What a right form gave is given where the form is right now.
-form_kept : (before now : Bool) (value : Value) → (before ≡ true → now ≡ true) → is_fine (cond before value (Bad WrongForm)) ≡ true
-    → cond now value (Bad WrongForm) ≡ cond before value (Bad WrongForm)
+form_kept : (before now : Bool) (value : Result Value Kind) → (before ≡ true → now ≡ true) → is_ok (cond before value (Err WrongForm)) ≡ true
+    → cond now value (Err WrongForm) ≡ cond before value (Err WrongForm)
 form_kept true now value h e = rw (h refl)
 form_kept false now value h e = never e
 
 -- So it is behind a test that has not changed.
-width_kept : (wide before now : Bool) (value : Value) → (before ≡ true → now ≡ true)
-    → is_fine (cond wide (Bad TooWide) (cond before value (Bad WrongForm))) ≡ true
-    → cond wide (Bad TooWide) (cond now value (Bad WrongForm)) ≡ cond wide (Bad TooWide) (cond before value (Bad WrongForm))
+width_kept : (wide before now : Bool) (value : Result Value Kind) → (before ≡ true → now ≡ true)
+    → is_ok (cond wide (Err TooWide) (cond before value (Err WrongForm))) ≡ true
+    → cond wide (Err TooWide) (cond now value (Err WrongForm)) ≡ cond wide (Err TooWide) (cond before value (Err WrongForm))
 width_kept true before now value h e = refl
 width_kept false before now value h e = form_kept before now value h e
 
-in_kept : (range : Range) (width : ℕ) (signed : Bool) (text : List ℕ) → is_fine (decimal_in_before range width signed text) ≡ true
+in_kept : (range : Range) (width : ℕ) (signed : Bool) (text : List ℕ) → is_ok (decimal_in_before range width signed text) ≡ true
     → decimal_in range width signed text ≡ decimal_in_before range width signed text
 unfolding decimal_in_before decimal_in
 in_kept range width signed text =
     let rest = bare signed text in
     width_kept (is_too_wide width rest) (is_decimal_before rest) (is_decimal rest)
-    (cond (is_within range (number 0 rest) (places rest)) (decimal_of text rest) (Bad OutOfRange)) (decimal_form_kept rest)
+    (cond (is_within range (number 0 rest) (places rest)) (Ok (decimal_of text rest)) (Err OutOfRange)) (decimal_form_kept rest)
 
 -- A text that was right as a decimal, an rmsCorr, a ra or a dec has the value that it had.
-pub decimal_kept : (width : ℕ) (signed : Bool) (text : List ℕ) → is_fine (decimal_before width signed text) ≡ true
+pub decimal_kept : (width : ℕ) (signed : Bool) (text : List ℕ) → is_ok (decimal_before width signed text) ≡ true
     → decimal width signed text ≡ decimal_before width signed text
 unfolding decimal_before decimal
 decimal_kept width signed text = in_kept (cond signed Any Positive) width signed text
 
-pub correlation_kept : (text : List ℕ) → is_fine (correlation_before text) ≡ true → correlation text ≡ correlation_before text
+pub correlation_kept : (text : List ℕ) → is_ok (correlation_before text) ≡ true → correlation text ≡ correlation_before text
 unfolding correlation_before correlation
 correlation_kept text = in_kept Unit 13 true text
 
-pub ascension_kept : (text : List ℕ) → is_fine (right_ascension_before text) ≡ true → right_ascension text ≡ right_ascension_before text
+pub ascension_kept : (text : List ℕ) → is_ok (right_ascension_before text) ≡ true → right_ascension text ≡ right_ascension_before text
 unfolding right_ascension_before right_ascension
 ascension_kept text =
     form_kept (is_right_ascension_before text) (is_right_ascension text)
-    (cond (ltb (units text) 360000000000) (Angle (pos (units text))) (Bad OutOfRange)) (ascension_form_kept text)
+    (cond (ltb (units text) 360000000000) (Ok (Angle (pos (units text)))) (Err OutOfRange)) (ascension_form_kept text)
 
-pub declination_kept : (text : List ℕ) → is_fine (declination_before text) ≡ true → declination text ≡ declination_before text
+pub declination_kept : (text : List ℕ) → is_ok (declination_before text) ≡ true → declination text ≡ declination_before text
 unfolding declination_before declination
 declination_kept text =
     let rest = bare true text in
     form_kept (is_degrees_before 2 rest) (is_degrees 2 rest)
-    (cond (leb (units rest) 90000000000) (Angle (with_sign (is_minus text) (units rest))) (Bad OutOfRange)) (degrees_form_kept 2 rest)
+    (cond (leb (units rest) 90000000000) (Ok (Angle (with_sign (is_minus text) (units rest)))) (Err OutOfRange)) (degrees_form_kept 2 rest)

@@ -1,6 +1,6 @@
 -- How large the value of a decimal of a width can be: its bare point is counted, so its places are fewer than its width.
 use Prim.Native.Nat.{ℕ, zero, suc, ◌-◌, ◌^◌, ◌≤◌, ◌<◌}
-use mathlib.Core.Path.{◌≡◌, refl, ap, ◌∙◌}
+use mathlib.Core.Path.{◌≡◌, refl, sym, ap, ◌∙◌}
 use mathlib.Core.Bool.{Bool, true, false}
 use mathlib.Core.List.{List}
 use native.Mathlib.Omega.{arith}
@@ -8,13 +8,15 @@ use lib.Dec.{ltb}
 use lib.IntN.{ℤ, nat_abs}
 use lib.ListN.{length, drop}
 use borrow.Author.Tests.{ltb-true, ltb-false}
+use Rattle.std.specs.Prelude.{Result, Ok}
+use Rattle.refusal.specs.declared.Kind.{Kind}
 use Rattle.text.specs.Class.{is_only}
 use Rattle.text.specs.Digits.{number}
 use Rattle.text.specs.declared.class.Class.TheVariants.{Digit}
 use Rattle.text.proofs.Bools.{bools, both, neither}
 use Rattle.text.proofs.Classes.{leading_le}
 use Rattle.text.proofs.Numbers.{number_small}
-use Rattle.value.specs.Check.{less_value, is_fine}
+use Rattle.value.specs.Check.{less_value}
 use Rattle.value.specs.Decimal.{is_pointed, is_decimal, places, is_too_wide, Range, is_within, decimal_of, decimal_in}
 use Rattle.value.specs.Numeral.{digits, is_digits}
 use Rattle.value.specs.Sign.{is_minus, bare, with_sign}
@@ -39,13 +41,13 @@ sign_size false n = refl
 
 -- The whole number of a decimal has at most as many digits as its width, and its places are fewer.
 pub decimal_held : (range : Range) (width : ℕ) (signed : Bool) (text : List ℕ) (whole : ℤ) (count : ℕ)
-    → decimal_in range width signed text ≡ Decimal whole count → (nat_abs whole < 10 ^ width) × (count < width)
+    → decimal_in range width signed text ≡ Ok (Decimal whole count) → (nat_abs whole < 10 ^ width) × (count < width)
 unfolding decimal_in is_too_wide places
 decimal_held range width signed text whole count e =
     let rest = bare signed text in
     let within = is_within range (number 0 rest) (places rest) in
-    let p = in_width_lem (is_too_wide width rest) (is_decimal rest) within (decimal_of text rest) (ap (λ (v : Value). is_fine (less_value v)) e) in
-    let told : decimal_of text rest ≡ Decimal whole count = rw (p.0, p.1, p.2) at e in
+    let p = in_width_lem (is_too_wide width rest) (is_decimal rest) within (decimal_of text rest) (sym (ap less_value e)) in
+    let told : ◌≡◌ {A = Result Value Kind} (Ok (decimal_of text rest)) (Ok (Decimal whole count)) = rw (p.0, p.1, p.2) at e in
     let few : length rest ≤ width = ltb-false width (length rest) (neither (ltb width (length rest)) (ltb 18 (length rest)) p.0).0 in
     let size : nat_abs whole ≡ number 0 rest = ap nat_abs (let z : whole ≡ with_sign (is_minus text) (number 0 rest) = cc in z) ∙ sign_size (is_minus text) (number 0 rest) in
     let least : count ≡ length rest - digits rest - 1 = cc in

@@ -12,6 +12,7 @@ use lib.Seq.{drop-cons}
 use mir.Syntax.{w64}
 use mir.Val.{SFits}
 use borrow.Author.Tests.{eqb-true, leb-true, ltb-true, ltb-false, lt-ltb, le-ltb}
+use Rattle.std.specs.Prelude.{Ok}
 use Rattle.text.specs.Class.{is_digit}
 use Rattle.text.specs.Digits.{after, number}
 use Rattle.text.proofs.Bools.{bools, both}
@@ -145,6 +146,6 @@ power_is s signed count l e signed_is count_is =
 
 -- The value of a text that passed its check, from the text less its sign.
 pub covariance_is : (text rest : List ℕ) → rest ≡ bare true text → ltb 20 (length rest) ≡ false → is_scaled rest ≡ true
-    → covariance text ≡ scaled_as (is_minus text) (number 0 (mantissa rest)) (power rest)
+    → covariance text ≡ Ok (scaled_as (is_minus text) (number 0 (mantissa rest)) (power rest))
 unfolding covariance size
 covariance_is text rest e narrow form = rw (← e, narrow, form)

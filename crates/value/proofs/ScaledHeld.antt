@@ -1,7 +1,7 @@
 -- What the value of a covariance can be: its parts lose nothing of its whole number, each is below 10,000,000,000, and its power lies from
 -- -1,013 to 999. Both ends are reached. The sign of zero is plus.
 use Prim.Native.Nat.{ℕ, zero, suc, ◌+◌, ◌-◌, ◌*◌, ◌/◌, ◌%◌, ◌≤◌, ◌<◌}
-use mathlib.Core.Path.{◌≡◌, refl, ap, ◌∙◌}
+use mathlib.Core.Path.{◌≡◌, refl, ap, ◌∙◌, sym}
 use mathlib.Core.Bool.{Bool, true, false, ◌&&◌, ◌||◌}
 use mathlib.Core.List.{List, [], ◌∷◌}
 use native.Mathlib.Omega.{arith}
@@ -9,12 +9,14 @@ use lib.Dec.{eqb, leb, ltb}
 use lib.IntN.{ℤ, pos, negsuc, sub_ℕ, ◌-ℤ◌}
 use lib.ListN.{length, drop, length-take, length-drop}
 use borrow.Author.Tests.{eqb-true, leb-true, ltb-true, ltb-false}
+use Rattle.std.specs.Prelude.{Result, Ok}
+use Rattle.refusal.specs.declared.Kind.{Kind}
 use Rattle.text.specs.Bytes.{bytes}
 use Rattle.text.specs.Class.{leading, is_only}
 use Rattle.text.specs.Digits.{after, number}
 use Rattle.text.proofs.Bools.{bools, both}
 use Rattle.text.proofs.Numbers.{number_small}
-use Rattle.value.specs.Check.{less_value, is_fine}
+use Rattle.value.specs.Check.{less_value}
 use Rattle.value.specs.Covariance.{before_mark, mantissa, exponent, is_exponent, is_scaled, size, power, scaled_as, covariance}
 use Rattle.value.specs.Decimal.{is_pointed, is_decimal, places}
 use Rattle.value.specs.Numeral.{is_digits}
@@ -120,13 +122,13 @@ negative_some : (minus : Bool) (n : ℕ) → (minus && ltb 0 n) ≡ true → 0 <
 negative_some minus n e = ltb-true 0 n (both minus (ltb 0 n) e).1
 
 pub scaled_held : (text : List ℕ) (negative : Bool) (high low : ℕ) (power_is : ℤ)
-    → covariance text ≡ Scaled negative high low power_is → ScaledHeld text negative high low power_is
+    → covariance text ≡ Ok (Scaled negative high low power_is) → ScaledHeld text negative high low power_is
 unfolding covariance
 scaled_held text negative high low power_is e =
     let rest = bare true text in
     let value = scaled_as (is_minus text) (size rest) (power rest) in
-    let p = in_width_lem (ltb 20 (length rest)) (is_scaled rest) true value (ap (λ (v : Value). is_fine (less_value v)) e) in
-    let told : value ≡ Scaled negative high low power_is = rw (p.0, p.1) at e in
+    let p = in_width_lem (ltb 20 (length rest)) (is_scaled rest) true value (sym (ap less_value e)) in
+    let told : ◌≡◌ {A = Result Value Kind} (Ok value) (Ok (Scaled negative high low power_is)) = rw (p.0, p.1) at e in
     let width = ltb-false 20 (length rest) p.0 in
     let high_is : size rest / 10000000000 ≡ high = cc in
     let low-is : size rest % 10000000000 ≡ low = cc in
@@ -141,10 +143,10 @@ scaled_held text negative high low power_is e =
     }
 
 -- Both ends of the power are reached.
-pub power_least : covariance (bytes ".00000000000001e-999") ≡ Scaled false 0 1 (negsuc 1012)
+pub power_least : covariance (bytes ".00000000000001e-999") ≡ Ok (Scaled false 0 1 (negsuc 1012))
 unfolding covariance is_scaled is_decimal is_pointed is_digits is_exponent is_only leading before_mark size power places number after bare with_sign
 power_least = refl
 
-pub power_most : covariance (bytes "1e999") ≡ Scaled false 0 1 (pos 999)
+pub power_most : covariance (bytes "1e999") ≡ Ok (Scaled false 0 1 (pos 999))
 unfolding covariance is_scaled is_decimal is_pointed is_digits is_exponent is_only leading before_mark size power places number after bare with_sign
 power_most = refl

@@ -1,13 +1,14 @@
 -- ra and dec, in units of 0.000000001 degree.
 use Prim.Native.Char.{code}
-use Rattle.std.specs.Prelude.{ℕ, ◌-◌, ◌*◌, ◌^◌, Bool, true, cond, ◌&&◌, ◌||◌, List, eqb, leb, ltb, pos, get_or}
+use Rattle.std.specs.Prelude.{ℕ, ◌-◌, ◌*◌, ◌^◌, Bool, true, cond, ◌&&◌, ◌||◌, List, eqb, leb, ltb, pos, get_or, Result, Ok, Err}
 use Rattle.text.specs.Digits.{number}
+use Rattle.refusal.specs.declared.Kind.{Kind}
 use Rattle.refusal.specs.declared.Kind.TheVariants.{WrongForm, OutOfRange}
 use Rattle.value.specs.Numeral.{digits, no_leading_zero}
 use Rattle.value.specs.Sign.{is_minus, bare, with_sign}
 use Rattle.value.specs.Decimal.{is_decimal, places}
 use Rattle.value.specs.declared.Value.{Value}
-use Rattle.value.specs.declared.Value.TheVariants.{Bad, Angle}
+use Rattle.value.specs.declared.Value.TheVariants.{Angle}
 
 -- A decimal with an integer part of at most `most` digits, no leading zero except `0` alone, and at most 9 places.
 unfoldable pub is_degrees : ℕ → List ℕ → Bool
@@ -22,15 +23,15 @@ unfoldable pub units : List ℕ → ℕ
 units text = number 0 text * 10 ^ (9 - places text)
 
 -- ra: 0 to below 360.
-unfoldable pub right_ascension : List ℕ → Value
+unfoldable pub right_ascension : List ℕ → Result Value Kind
 right_ascension text =
     cond (is_right_ascension text)
-    (cond (ltb (units text) 360000000000) (Angle (pos (units text))) (Bad OutOfRange))
-    (Bad WrongForm)
+    (cond (ltb (units text) 360000000000) (Ok (Angle (pos (units text)))) (Err OutOfRange))
+    (Err WrongForm)
 
 -- dec: optional sign, integer part of at most two digits; -90 to 90 inclusive.
-unfoldable pub declination : List ℕ → Value
+unfoldable pub declination : List ℕ → Result Value Kind
 declination text =
     cond (is_degrees 2 (bare true text))
-    (cond (leb (units (bare true text)) 90000000000) (Angle (with_sign (is_minus text) (units (bare true text)))) (Bad OutOfRange))
-    (Bad WrongForm)
+    (cond (leb (units (bare true text)) 90000000000) (Ok (Angle (with_sign (is_minus text) (units (bare true text))))) (Err OutOfRange))
+    (Err WrongForm)

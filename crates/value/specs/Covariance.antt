@@ -1,13 +1,14 @@
 -- Covariances: numbers in decimal or exponential form, whose value is a whole number in two parts with a signed power of ten.
 use Prim.Native.Char.{code}
-use Rattle.std.specs.Prelude.{ℕ, suc, ◌/◌, ◌%◌, Bool, true, cond, ◌&&◌, ◌||◌, List, [], ◌∷◌, eqb, leb, ltb, ℤ, pos, ◌-ℤ◌, length, take, drop}
+use Rattle.std.specs.Prelude.{ℕ, suc, ◌/◌, ◌%◌, Bool, true, cond, ◌&&◌, ◌||◌, List, [], ◌∷◌, eqb, leb, ltb, ℤ, pos, ◌-ℤ◌, length, take, drop, Result, Ok, Err}
 use Rattle.text.specs.Digits.{number}
+use Rattle.refusal.specs.declared.Kind.{Kind}
 use Rattle.refusal.specs.declared.Kind.TheVariants.{TooWide, WrongForm}
 use Rattle.value.specs.Decimal.{is_decimal, places}
 use Rattle.value.specs.Numeral.{is_digits}
 use Rattle.value.specs.Sign.{is_minus, bare, with_sign}
 use Rattle.value.specs.declared.Value.{Value}
-use Rattle.value.specs.declared.Value.TheVariants.{Bad, Scaled}
+use Rattle.value.specs.declared.Value.TheVariants.{Scaled}
 
 -- The byte is `e` or `E`.
 abbrev pub is_mark : ℕ → Bool
@@ -52,9 +53,9 @@ scaled_as minus whole power = Scaled (minus && ltb 0 whole) (whole / part_base) 
 
 -- A covariance may have one `+` or `-` before it, not counted in its width, which is 20.
 -- It is 8 when its bytes, less that sign, pass its width, whatever they are.
-unfoldable pub covariance : List ℕ → Value
+unfoldable pub covariance : List ℕ → Result Value Kind
 covariance text =
-    cond (ltb 20 (length (bare true text))) (Bad TooWide)
+    cond (ltb 20 (length (bare true text))) (Err TooWide)
     (cond (is_scaled (bare true text))
-    (scaled_as (is_minus text) (size (bare true text)) (power (bare true text)))
-    (Bad WrongForm))
+    (Ok (scaled_as (is_minus text) (size (bare true text)) (power (bare true text))))
+    (Err WrongForm))

@@ -1,14 +1,15 @@
 -- Decimals: their form, their places and their values.
 use Prim.Native.Char.{code}
-use Rattle.std.specs.Prelude.{ℕ, ◌-◌, ◌^◌, Bool, true, cond, ◌&&◌, ◌||◌, List, eqb, leb, ltb, length, get_or, drop}
+use Rattle.std.specs.Prelude.{ℕ, ◌-◌, ◌^◌, Bool, true, cond, ◌&&◌, ◌||◌, List, eqb, leb, ltb, length, get_or, drop, Result, Ok, Err}
 use Rattle.text.specs.Class.{is_only}
 use Rattle.text.specs.Digits.{number}
 use Rattle.text.specs.declared.class.Class.TheVariants.{Digit}
+use Rattle.refusal.specs.declared.Kind.{Kind}
 use Rattle.refusal.specs.declared.Kind.TheVariants.{TooWide, WrongForm, OutOfRange}
 use Rattle.value.specs.Numeral.{digits, is_digits}
 use Rattle.value.specs.Sign.{is_minus, bare, with_sign}
 use Rattle.value.specs.declared.Value.{Value}
-use Rattle.value.specs.declared.Value.TheVariants.{Bad, Decimal}
+use Rattle.value.specs.declared.Value.TheVariants.{Decimal}
 
 -- A point and only digits after it, perhaps none.
 unfoldable pub is_pointed : List ℕ → Bool
@@ -48,20 +49,20 @@ decimal_of text rest = Decimal (with_sign (is_minus text) (number 0 rest)) (plac
 
 -- A decimal of a width, with or without a sign, in a range.
 -- It is 8 when its bytes, less a leading sign of a signed decimal, pass its width, whatever they are.
-unfoldable pub decimal_in : Range → ℕ → Bool → List ℕ → Value
+unfoldable pub decimal_in : Range → ℕ → Bool → List ℕ → Result Value Kind
 decimal_in range width signed text =
-    cond (is_too_wide width (bare signed text)) (Bad TooWide)
+    cond (is_too_wide width (bare signed text)) (Err TooWide)
     (cond (is_decimal (bare signed text))
     (cond (is_within range (number 0 (bare signed text)) (places (bare signed text)))
-    (decimal_of text (bare signed text))
-    (Bad OutOfRange))
-    (Bad WrongForm))
+    (Ok (decimal_of text (bare signed text)))
+    (Err OutOfRange))
+    (Err WrongForm))
 
 -- A signed one may have one `+` or `-` before it, not counted in the width.
 -- A positive one has no sign (else 9) and is above zero (else 10).
-unfoldable pub decimal : ℕ → Bool → List ℕ → Value
+unfoldable pub decimal : ℕ → Bool → List ℕ → Result Value Kind
 decimal width signed text = decimal_in (cond signed Any Positive) width signed text
 
 -- rmsCorr: signed decimal, 13, from -1 to 1 inclusive.
-unfoldable pub correlation : List ℕ → Value
+unfoldable pub correlation : List ℕ → Result Value Kind
 correlation text = decimal_in Unit 13 true text

@@ -1,15 +1,16 @@
 -- permID, provID and artSat.
 use Prim.Native.Char.{code}
-use Rattle.std.specs.Prelude.{ℕ, Bool, not, cond, ◌&&◌, ◌||◌, List, eqb, leb, length, get_or, take, drop}
+use Rattle.std.specs.Prelude.{ℕ, Bool, not, cond, ◌&&◌, ◌||◌, List, eqb, leb, length, get_or, take, drop, Result, Ok, Err}
 use Rattle.text.specs.Bytes.{bytes}
 use Rattle.text.specs.Class.{is_capital, leading, is_only}
 use Rattle.text.specs.Part.{starts}
 use Rattle.text.specs.declared.class.Class.TheVariants.{Capital}
+use Rattle.refusal.specs.declared.Kind.{Kind}
 use Rattle.refusal.specs.declared.Kind.TheVariants.{WrongForm, OutOfRange}
 use Rattle.value.specs.Characters.{is_long}
 use Rattle.value.specs.Numeral.{digits, is_count, part}
 use Rattle.value.specs.declared.Value.{Value}
-use Rattle.value.specs.declared.Value.TheVariants.{Bad, NoValue}
+use Rattle.value.specs.declared.Value.TheVariants.{NoValue}
 
 -- `from` to `to` capitals and nothing else.
 unfoldable pub is_capitals : ℕ → ℕ → List ℕ → Bool
@@ -33,10 +34,10 @@ is_numbered_comet text =
     is_count 6 (take (digits text) text) && is_por_d (get_or text (digits text) 0) && is_fragment_or_none (drop 1 (drop (digits text) text))
 
 -- Digits, no leading zero, 1 to 8 of them, 1 to 61,999,999; or a numbered comet.
-unfoldable pub perm_id : List ℕ → Value
+unfoldable pub perm_id : List ℕ → Result Value Kind
 perm_id text =
-    cond (is_count 8 text) (cond (leb (part 0 8 text) 61999999) NoValue (Bad OutOfRange))
-    (cond (is_numbered_comet text) NoValue (Bad WrongForm))
+    cond (is_count 8 text) (cond (leb (part 0 8 text) 61999999) (Ok NoValue) (Err OutOfRange))
+    (cond (is_numbered_comet text) (Ok NoValue) (Err WrongForm))
 
 -- A capital A to Z but not I.
 abbrev pub is_capital_not_i : ℕ → Bool
@@ -72,11 +73,11 @@ is_comet text =
     is_comet_letter (get_or text 0 0) && starts (bytes "/dddd ") (drop 1 text) && is_comet_end (eqb (get_or text 0 0) (code "A")) (drop 7 text)
 
 -- A minor planet, its number 1 to 61,999, or a comet.
-unfoldable pub prov_id : List ℕ → Value
+unfoldable pub prov_id : List ℕ → Result Value Kind
 prov_id text =
-    cond (is_minor_planet text) (cond (leb (part 7 5 text) 61999) NoValue (Bad OutOfRange))
-    (cond (is_comet text) NoValue (Bad WrongForm))
+    cond (is_minor_planet text) (cond (leb (part 7 5 text) 61999) (Ok NoValue) (Err OutOfRange))
+    (cond (is_comet text) (Ok NoValue) (Err WrongForm))
 
 -- 4 digits, `-`, 3 digits, 1 to 3 capitals.
-unfoldable pub art_sat : List ℕ → Value
-art_sat text = cond (starts (bytes "dddd-ddd") text && is_capitals 1 3 (drop 8 text)) NoValue (Bad WrongForm)
+unfoldable pub art_sat : List ℕ → Result Value Kind
+art_sat text = cond (starts (bytes "dddd-ddd") text && is_capitals 1 3 (drop 8 text)) (Ok NoValue) (Err WrongForm)

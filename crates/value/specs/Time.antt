@@ -1,13 +1,14 @@
 -- obsTime: `yyyy-mm-ddThh:mm:ss`, optionally a point and 1 to 6 digits, then `Z`.
 use Prim.Native.Char.{code}
-use Rattle.std.specs.Prelude.{ℕ, ◌+◌, ◌-◌, ◌*◌, ◌^◌, Bool, cond, ◌&&◌, ◌||◌, List, eqb, leb, ℤ, get_or, drop}
+use Rattle.std.specs.Prelude.{ℕ, ◌+◌, ◌-◌, ◌*◌, ◌^◌, Bool, cond, ◌&&◌, ◌||◌, List, eqb, leb, ℤ, get_or, drop, Result, Ok, Err}
 use Rattle.text.specs.Bytes.{bytes}
 use Rattle.text.specs.Part.{same, starts}
+use Rattle.refusal.specs.declared.Kind.{Kind}
 use Rattle.refusal.specs.declared.Kind.TheVariants.{WrongForm, OutOfRange}
 use Rattle.value.specs.Numeral.{digits, part}
 use Rattle.value.specs.Calendar.{is_date, is_clock, day_number}
 use Rattle.value.specs.declared.Value.{Value}
-use Rattle.value.specs.declared.Value.TheVariants.{Bad, Time}
+use Rattle.value.specs.declared.Value.TheVariants.{Time}
 
 -- One to six digits, then Z.
 unfoldable pub is_fraction : List ℕ → Bool
@@ -38,5 +39,5 @@ unfoldable pub microseconds : List ℕ → ℕ
 microseconds text = ((part 11 2 text * 60 + part 14 2 text) * 60 + part 17 2 text) * 1000000 + fraction text
 
 -- Its value is a signed day number and the microseconds of the day.
-unfoldable pub obs_time : List ℕ → Value
-obs_time text = cond (is_time text) (cond (is_moment text) (Time (day_of text) (microseconds text)) (Bad OutOfRange)) (Bad WrongForm)
+unfoldable pub obs_time : List ℕ → Result Value Kind
+obs_time text = cond (is_time text) (cond (is_moment text) (Ok (Time (day_of text) (microseconds text))) (Err OutOfRange)) (Err WrongForm)

@@ -1,10 +1,11 @@
 -- Words out of a list. A mode or sys word outside the list is 10, and so is a flag other than 0 or 1.
-use Rattle.std.specs.Prelude.{ℕ, Bool, false, cond, ◌||◌, List, [], ◌∷◌}
+use Rattle.std.specs.Prelude.{ℕ, Bool, false, cond, ◌||◌, List, [], ◌∷◌, Result, Ok, Err}
 use Rattle.text.specs.Bytes.{bytes}
 use Rattle.text.specs.Part.{same}
+use Rattle.refusal.specs.declared.Kind.{Kind}
 use Rattle.refusal.specs.declared.Kind.TheVariants.{OutOfRange}
 use Rattle.value.specs.declared.Value.{Value}
-use Rattle.value.specs.declared.Value.TheVariants.{Bad, NoValue}
+use Rattle.value.specs.declared.Value.TheVariants.{NoValue}
 
 -- The text is one of the words.
 abbrev pub is_one_of : List (List ℕ) → List ℕ → Bool
@@ -25,21 +26,21 @@ modes =
     []
 
 -- PHO ENC CCD MER MIC NOR VID PMT.
-unfoldable pub mode : List ℕ → Value
-mode text = cond (is_one_of modes text) NoValue (Bad OutOfRange)
+unfoldable pub mode : List ℕ → Result Value Kind
+mode text = cond (is_one_of modes text) (Ok NoValue) (Err OutOfRange)
 
 -- The systems of a location, in capitals.
 abbrev pub systems : List (List ℕ)
 systems = bytes "WGS84" ∷ bytes "ITRF" ∷ bytes "IAU" ∷ bytes "ICRF_AU" ∷ bytes "ICRF_KM" ∷ []
 
 -- WGS84 ITRF IAU ICRF_AU ICRF_KM.
-unfoldable pub system : List ℕ → Value
-system text = cond (is_one_of systems text) NoValue (Bad OutOfRange)
+unfoldable pub system : List ℕ → Result Value Kind
+system text = cond (is_one_of systems text) (Ok NoValue) (Err OutOfRange)
 
 -- The flags.
 abbrev pub flags : List (List ℕ)
 flags = bytes "0" ∷ bytes "1" ∷ []
 
 -- 0 or 1, without a value.
-unfoldable pub flag : List ℕ → Value
-flag text = cond (is_one_of flags text) NoValue (Bad OutOfRange)
+unfoldable pub flag : List ℕ → Result Value Kind
+flag text = cond (is_one_of flags text) (Ok NoValue) (Err OutOfRange)

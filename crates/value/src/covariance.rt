@@ -4,10 +4,10 @@ ghost use Rattle.text.specs.Digits.{number};
 ghost use Rattle.value.specs.Check.{less_value};
 ghost use Rattle.value.specs.Covariance.{is_mark, before_mark, is_exponent, is_scaled, power, scaled_as, covariance};
 
+use crate::Value;
 use crate::decimal::{is_decimal, places};
 use crate::numeral::{digits, is_digits};
 use crate::sign::{bare, is_minus, with_sign};
-use crate::{Value, is_fine};
 use refusal::Kind;
 use text::class;
 use text::class::Class;
@@ -21,31 +21,28 @@ const WIDTH: usize = 20;
 const PART_BASE: u64 = 10000000000;
 
 // A text as a covariance.
-pub fn covariance(text: &[u8]) -> Value
+pub fn covariance(text: &[u8]) -> Result<Value, Kind>
     ensures { result ≡ covariance text.now }
 {
-    let found = check_covariance(text);
-    if is_fine(found) {
-        let rest = bare(text, true);
-        let before = before_mark(rest);
-        let scale = power(rest, before);
-        return in_parts(is_minus(text), front(rest, before), scale);
-    }
-    found
+    check_covariance(text)?;
+    let rest = bare(text, true);
+    let before = before_mark(rest);
+    let scale = power(rest, before);
+    Ok(in_parts(is_minus(text), front(rest, before), scale))
 }
 
 // The same covariance checked without working out its value.
-pub fn check_covariance(text: &[u8]) -> Value
+pub fn check_covariance(text: &[u8]) -> Result<(), Kind>
     ensures { result ≡ less_value (covariance text.now) }
 {
     let rest = bare(text, true);
     if WIDTH < rest.len() {
-        return Value::Bad(Kind::TooWide);
+        return Err(Kind::TooWide);
     }
     if is_scaled(rest, before_mark(rest)) {
-        return Value::NoValue;
+        return Ok(());
     }
-    Value::Bad(Kind::WrongForm)
+    Err(Kind::WrongForm)
 }
 
 // Whether a text without sign whose first `e` or `E` stands after so many bytes is in decimal or exponential form.

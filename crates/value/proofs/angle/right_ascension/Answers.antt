@@ -5,7 +5,7 @@ use borrow.Author.Tests.{ltb-true}
 use mir.Facts.{to_z-of_z}
 use mir.Syntax.{w64}
 use mir.Val.{of_z, to_z}
-use Rattle.value.proofs.Checks.{found_fault, found_ascension}
+use Rattle.value.proofs.Checks.{found_ascension}
 use Rattle.value.proofs.Degrees.{ascension_small}
 use Rattle.value.specs.Angle.{units, right_ascension}
 use Rattle.value.specs.Sign.{with_sign}
@@ -14,23 +14,18 @@ use Rattle.value.proofs.angle.right_ascension.Goals as goal
 pub units-size-requires : goal.units-size-requires
 units-size-requires c =
     let text = c.args.text.now in
-    let right = found_ascension _ _ c.is_fine.ensures text c.check_right_ascension-found.ensures c.if-is_fine.true in
-    let small = ascension_small text right.0 in
+    let small = ascension_small text (found_ascension text c.in_ok-check_right_ascension.ensures).0 in
     (c.digits.ensures, small.0, small.1)
 
 pub with_sign-requires : goal.with_sign-requires
 with_sign-requires c =
     let text = c.args.text.now in
-    let right = found_ascension _ _ c.is_fine.ensures text c.check_right_ascension-found.ensures c.if-is_fine.true in
-    omega (arith, c.units-size.ensures, ltb-true (units text) 360000000000 right.1)
+    omega (arith, c.units-size.ensures, ltb-true (units text) 360000000000 (found_ascension text c.in_ok-check_right_ascension.ensures).1)
 
-pub returns-then-is_fine : goal.returns-then-is_fine
+pub returns : goal.returns
 unfolding right_ascension with_sign
-returns-then-is_fine c =
-    let right = found_ascension _ _ c.is_fine.ensures c.args.text.now c.check_right_ascension-found.ensures c.if-is_fine.true in
+returns c =
+    let right = found_ascension c.args.text.now c.in_ok-check_right_ascension.ensures in
     let signed = c.with_sign in
     let e : to_z w64 (of_z w64 signed.result) ≡ signed.result = to_z-of_z {w = w64} (record { sfits = signed.type_inv }) in
     rw (e, signed.ensures, c.units-size.ensures, right.0, right.1)
-
-pub returns : goal.returns
-returns c = found_fault _ _ c.is_fine.ensures (right_ascension c.args.text.now) c.check_right_ascension-found.ensures c.if-is_fine.false

@@ -9,9 +9,9 @@ use mir.Facts.{to_z-of_z}
 use mir.Syntax.{w64}
 use mir.Val.{of_z, to_z}
 use native.Mathlib.Omega.{arith}
-use Rattle.value.proofs.Checks.{found_covariance, found_fault}
+use Rattle.value.proofs.Checks.{found_covariance}
 use Rattle.value.proofs.Scaled.{covariance_is}
-use Rattle.value.specs.Covariance.{is_scaled, covariance}
+use Rattle.value.specs.Covariance.{is_scaled}
 use Rattle.value.specs.Sign.{bare}
 use Rattle.value.proofs.covariance.covariance.Goals as goal
 use Rattle.value.proofs.covariance.covariance.Goals.{After-bare-rest}
@@ -20,7 +20,7 @@ use Rattle.value.proofs.covariance.covariance.Goals.{After-bare-rest}
 passed : (c : After-bare-rest) → (length c.bare-rest.result.now ≤ 20) × (ltb 20 (length c.bare-rest.result.now) ≡ false) × (is_scaled c.bare-rest.result.now ≡ true)
 passed c =
     let s = c.args.text.now in
-    let right = found_covariance _ _ c.is_fine.ensures s c.check_covariance-found.ensures c.if-is_fine.true in
+    let right = found_covariance s c.in_ok-check_covariance.ensures in
     rw c.bare-rest.ensures (ltb-false 20 (length (bare true s)) right.0, right.0, right.1)
 
 pub power-scale-requires : goal.power-scale-requires
@@ -31,16 +31,12 @@ in_parts-requires c =
     let after-bare = c in
     omega (arith, ap length c.front.ensures, length-take c.before_mark-before.result after-bare.bare-rest.result.now, (passed (goal.at.in_parts-requires c).After-bare-rest).0)
 
-pub returns-then-is_fine : goal.returns-then-is_fine
-returns-then-is_fine c =
+pub returns : goal.returns
+returns c =
     let after-mark = c in
     let after-bare = after-mark in
-    let right = passed (goal.at.returns-then-is_fine c).After-bare-rest in
+    let right = passed (goal.at.returns c).After-bare-rest in
     let value = covariance_is after-bare.args.text.now after-bare.bare-rest.result.now after-bare.bare-rest.ensures right.1 right.2 in
     let power = c.power-scale in
     let back : to_z w64 (of_z w64 power.result) ≡ power.result = to_z-of_z {w = w64} (record { sfits = power.type_inv }) in
     rw (value, c.in_parts.ensures, back, c.front.ensures, c.is_minus.ensures, power.ensures, after-mark.before_mark-before.ensures)
-
-pub returns : goal.returns
-returns c =
-    found_fault _ _ c.is_fine.ensures (covariance c.args.text.now) c.check_covariance-found.ensures c.if-is_fine.false
