@@ -1,16 +1,15 @@
 -- Steps of pressing rows into runs.
 use mathlib.Core.Path.{◌≡◌, refl, sym, ap, ap₂, ◌∙◌, subst}
-use mathlib.Core.Bool.{Bool, true, false, cond}
+use mathlib.Core.Bool.{Bool, true, false, not, cond}
 use mathlib.Core.List.{List, [], ◌∷◌}
-use Prim.Native.Nat.{ℕ, ◌≤◌, ◌<◌, zero, suc, ◌+◌, ◌-◌, ◌^◌}
+use Prim.Native.Nat.{ℕ, ◌≤◌, ◌<◌, zero, suc, ◌+◌, ◌-◌}
 use native.Mathlib.Omega.{arith}
 use lib.ListN.{length, drop, get_or, length-drop, drop_of_length-le, set, length-set}
 use lib.Dec.{eqb}
 use native.Mathlib.Numerals.{add-one}
 use lib.Seq.{drop-cons}
 use native.Mathlib.Nat.{add_comm}
-use mir.Syntax.{w64}
-use mir.Val.{Fits}
+use mir.Val.{bool_byte}
 use borrow.Author.Tests.{eq-eqb, ne_eqb}
 use Rattle.cuts.specs.Runs.{runs_of, onto_run, onto, press, change, changes, runs_in, Room, Pressed, Joins}
 use Rattle.cuts.specs.Block.{most_rows, most_bytes, Row, row, rows_of, value_bytes, row_count}
@@ -270,46 +269,34 @@ pub ruleset press-all-needs = (press_start, press_back, press_end, one_less_lt)
 
 -- ---- how many runs there are
 
--- Whether the set changes, as the code counts it.
-pub change_none : (set before : ℕ) → set ≡ before → 0 ≡ change set before
-change_none set before e = rw (eq-eqb set before e)
-
-pub change_one : (set before : ℕ) → (set ≡ before → ⊥) → 1 ≡ change set before
-change_one set before h = rw (ne_eqb set before h)
-
-pub ruleset change-needs = (change_none, change_one)
-
--- The runs up to the set i are counted, and `before` is the set before it.
-pub record Counted (sets : List ℕ) (before n i : ℕ) : Type 0 where
-  pub within : i ≤ length sets
-  pub few : n ≤ i
-  pub is : n + changes before (drop i sets) ≡ runs_in sets
-
-pub count_start : (sets : List ℕ) → (length sets ≡ 0 → ⊥) → Counted sets (get_or sets 0 0) 1 1
-unfolding runs_in
-count_start [] h = absurd (h refl)
-count_start (m ∷ sets) h = record { within = omega arith; few = omega arith; is = refl }
-
+-- None, and all.
 pub count_none : (sets : List ℕ) → length sets ≡ 0 → 0 ≡ runs_in sets
 unfolding runs_in
 count_none [] e = refl
 count_none (m ∷ sets) e = absurd (omega arith)
 
-pub count_more : (sets : List ℕ) (before n i c : ℕ) → Counted sets before n i → i < length sets → (c ≡ change (get_or sets i 0) before) × (c ≤ 1)
-    → Counted sets (get_or sets i 0) (n + c) (i + 1)
+pub count_all : (sets rest : List ℕ) (first before n i : ℕ) → sets ≡ first ∷ rest → length rest ≤ i → n + changes before (drop i rest) ≡ 1 + changes first rest → n ≡ runs_in sets
+unfolding runs_in changes
+count_all sets rest first before n i e h q = omega (arith, ap runs_in e, ap (changes before) (drop_of_length-le rest {i = i} h))
+
+-- Whether the set changes, as the code counts it.
+flipped : (b : Bool) → bool_byte (not b) ≡ cond b 0 1
+flipped true = refl
+flipped false = refl
+
+pub changed : (set before c : ℕ) → c ≡ bool_byte (not (eqb set before)) → c ≡ change set before
+changed set before c e = e ∙ flipped (eqb set before)
+
+changed_le : (b : Bool) → bool_byte (not b) ≤ 1
+changed_le true = omega arith
+changed_le false = omega arith
+
+pub changed_one : (set before c : ℕ) → c ≡ bool_byte (not (eqb set before)) → c ≤ 1
+changed_one set before c e = omega (arith, e, changed_le (eqb set before))
+
+-- A set more: one run more where it is another than the one before it.
+pub count_more : (sets : List ℕ) (before set n i c : ℕ) → i < length sets → set ≡ get_or sets i 0 → c ≡ change set before
+    → n + c + changes set (drop (i + 1) sets) ≡ n + changes before (drop i sets)
 unfolding changes
-count_more sets before n i c s h e = record {
-  within = omega arith;
-  few = omega (arith, s.few, e.1);
-  is = omega (arith, s.is, e.0, ap (changes before) (drop-cons sets i 0 h), ap (λ (k : ℕ). changes (get_or sets i 0) (drop k sets)) (add-one i));
-}
-
-pub count_fits : (sets : List ℕ) (before n i c : ℕ) → Counted sets before n i → i < length sets → (c ≡ change (get_or sets i 0) before) × (c ≤ 1)
-    → length sets < 2 ^ 64 → Fits w64 (n + c)
-count_fits sets before n i c s h e l = record { fits = omega (arith, s.few, e.1) }
-
-pub count_all : (sets : List ℕ) (before n i : ℕ) → Counted sets before n i → length sets ≤ i → n ≡ runs_in sets
-unfolding changes
-count_all sets before n i s h = omega (arith, s.is, ap (changes before) (drop_of_length-le sets {i = i} h))
-
-pub ruleset count-needs = (count_start, count_none, count_more, count_fits, count_all)
+count_more sets before set n i c h e q =
+    omega (arith, q, ap (λ (k : ℕ). change k before) e, ap (λ (k : ℕ). changes k (drop (i + 1) sets)) e, ap (changes before) (drop-cons sets i 0 h), ap (λ (k : ℕ). changes (get_or sets i 0) (drop k sets)) (add-one i))

@@ -1,88 +1,18 @@
 -- The input is ready where the tests say so, and the promise follows from what was planned.
-use mathlib.Core.Path.{◌≡◌, refl, sym, ap, ◌∙◌, subst}
+use mathlib.Core.Path.{◌≡◌, refl, sym, ◌∙◌, subst}
 use mathlib.Core.Bool.{Bool, true, false, ◌&&◌}
 use mathlib.Core.List.{List, [], ◌∷◌}
-use Prim.Native.Nat.{ℕ, ◌≤◌, ◌<◌, ◌+◌, ◌^◌, ◌*◌}
+use Prim.Native.Nat.{ℕ, ◌≤◌}
 use native.Mathlib.Omega.{arith}
-use lib.ListN.{length, take, get_or}
-use borrow.Author.Tests.{leb-true, le-leb, lt-leb, eq-eqb, ne_eqb, eqb-true}
+use lib.ListN.{length}
+use borrow.Author.Tests.{leb-true, eqb-true}
 use lib.Dec.{leb, eqb}
-use native.Mathlib.Numerals.{add-one}
-use mir.Syntax.{w64}
-use mir.Val.{Fits}
-use lib.Seq.{take_all}
 use Rattle.cuts.specs.Runs.{few_runs, press, runs_in, Ready}
 use Rattle.cuts.specs.Cuts.{same_mark}
 use Rattle.cuts.specs.Plan.{marked_rows, marked_bytes, ready, Planned, Answered, ShortestPromised}
 use Rattle.cuts.specs.Block.{most_rows, most_bytes, rows_of, total, value_bytes}
 use Rattle.cuts.specs.declared.Plan.{Plan}
-use Rattle.cuts.proofs.SumLaws.{total_take}
 use Rattle.cuts.proofs.PressLaws.{rows_few, press_short, press_count}
-
--- ---- the sizes together
-
--- The first k sizes are added up.
-pub record Summed (sizes : List ℕ) (k sum : ℕ) : Type 0 where
-  pub within : k ≤ length sizes
-  pub is : sum ≡ total (take k sizes)
-  pub low : sum ≤ k * 2 ^ 32
-
--- None is added up yet.
-pub summed_none : (sizes : List ℕ) → Summed sizes 0 0
-unfolding total
-summed_none sizes = record { within = omega arith; is = refl; low = omega arith }
-
--- One size more is added up.
-pub summed_more : (sizes : List ℕ) (k sum size : ℕ) → k < length sizes → (size ≡ get_or sizes k 0) × (size < 2 ^ 32) → Summed sizes k sum → Summed sizes (k + 1) (sum + size)
-summed_more sizes k sum size h e s = record {
-  within = omega arith;
-  is = omega (arith, s.is, e.0, total_take sizes k h, ap (λ (n : ℕ). total (take n sizes)) (add-one k));
-  low = omega (arith, s.low, e.1);
-}
-
--- No sum passes what a number holds.
-pub summed_fits : (sizes : List ℕ) (k sum size : ℕ) → length sizes ≤ most_rows → k < length sizes → (size ≡ get_or sizes k 0) × (size < 2 ^ 32) → Summed sizes k sum → Fits w64 (sum + size)
-summed_fits sizes k sum size l h e s = record { fits = omega (arith, s.low, e.1) }
-
--- All sizes are added up.
-pub summed_all : (sizes : List ℕ) (k sum : ℕ) → length sizes ≤ k → Summed sizes k sum → sum ≡ total sizes
-summed_all sizes k sum h s = s.is ∙ ap total (take_all k sizes h)
-
-pub ruleset size-needs = (summed_none, summed_more, summed_fits, summed_all)
-
--- ---- the tests
-
--- Each test decides, where those before it passed.
-module _ (marks sets sizes cuts : List ℕ) where
-  pub unlike_marks : (length marks ≡ length sets → ⊥) → false ≡ ready marks sets sizes cuts
-  unfolding ready
-  unlike_marks n = rw (ne_eqb (length marks) (length sets) n)
-
-  module _ (marked : length marks ≡ length sets) where
-    pub unlike_lengths : (length sizes ≡ length sets → ⊥) → false ≡ ready marks sets sizes cuts
-    unfolding ready
-    unlike_lengths n = rw (eq-eqb (length marks) (length sets) marked, ne_eqb (length sizes) (length sets) n)
-
-    module _ (same : length sizes ≡ length sets) where
-      -- A mark and a size for each set: what is left of the tests.
-      both : ready marks sets sizes cuts ≡ (leb (length sets) most_rows && (leb (length sets) (length cuts) && leb (total sizes) most_bytes))
-      unfolding ready
-      both = rw (eq-eqb (length marks) (length sets) marked, eq-eqb (length sizes) (length sets) same)
-
-      pub too_many : most_rows < length sets → false ≡ ready marks sets sizes cuts
-      too_many h = rw (both, lt-leb (length sets) most_rows h)
-
-      module _ (few : length sets ≤ most_rows) where
-        pub sizes_few : length sizes ≤ most_rows
-        sizes_few = omega arith
-
-        pub no_room : length cuts < length sets → false ≡ ready marks sets sizes cuts
-        no_room h = rw (both, le-leb (length sets) most_rows few, lt-leb (length sets) (length cuts) h)
-
-        pub size_decides : (sum : ℕ) → length sets ≤ length cuts → sum ≡ total sizes → leb sum most_bytes ≡ ready marks sets sizes cuts
-        size_decides sum h e = rw (both, le-leb (length sets) most_rows few, le-leb (length sets) (length cuts) h, e)
-
-pub ruleset test-needs = (unlike_marks, unlike_lengths, too_many, sizes_few, no_room, size_decides)
 
 -- ---- the promise
 

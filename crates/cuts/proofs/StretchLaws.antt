@@ -1,9 +1,12 @@
 -- Steps of cutting the rows stretch by stretch.
 use mathlib.Core.Path.{◌≡◌, refl, sym, ap, subst, ◌∙◌}
+use mathlib.Core.Bool.{Bool, true, false, cond}
+use lib.Dec.{eqb}
+use Rattle.std.specs.Bool.{◌==◌}
+use Rattle.std.specs.List.{prefix_len}
 use mathlib.Core.List.{List, [], ◌∷◌, ◌++◌, map, append_assoc, append-nil}
 use Prim.Native.Nat.{ℕ, suc, ◌+◌, ◌-◌, ◌*◌, ◌^◌, ◌≤◌, ◌<◌}
 use native.Mathlib.Omega.{arith}
-use native.Mathlib.Numerals.{add-one}
 use mir.Syntax.{w64}
 use mir.Val.{Fits}
 use lib.ListN.{length, take, drop, get_or, drop_of_length-le, length-append, length-drop, length-map}
@@ -18,51 +21,37 @@ use Rattle.cuts.specs.declared.Plan.{Plan}
 use Rattle.cuts.proofs.CutLaws.{take_map, drop_map, cost_map, wanted_map, stretch_map, cuts_sum}
 use Rattle.cuts.proofs.SumLaws.{end, end_is, values_take_le, values_drop_le}
 use Rattle.cuts.proofs.RowLaws.{rows_of_lem, marks_of_lem, rows_take, rows_drop, rows_long, low_take, cheap, block_limited, numbers_few}
-use Rattle.cuts.proofs.StretchCuts.{stretch_more, stretch_ends, wanted_stretch, cost_stretch}
+use Rattle.cuts.proofs.StretchCuts.{stretch_more, wanted_stretch, cost_stretch}
 
 -- ---- where a stretch ends
 
--- The marks from `at` up to i are the same, and the stretch goes on with those after them.
-pub record SameUpTo (marks : List ℕ) (at i : ℕ) : Type 0 where
-  pub some : at < i
-  pub within : i ≤ length marks
-  pub left : at + stretch (λ mark. mark) (get_or marks at 0) (drop at marks) ≡ i + stretch (λ mark. mark) (get_or marks at 0) (drop i marks)
-
--- A row with the mark is one more of the stretch.
-one_more : (marks : List ℕ) (m i : ℕ) → i < length marks → get_or marks i 0 ≡ m
-    → i + stretch (λ mark. mark) m (drop i marks) ≡ i + 1 + stretch (λ mark. mark) m (drop (i + 1) marks)
-one_more marks m i h e =
-    omega (arith, ap (stretch (λ mark. mark) m) (drop-cons marks i 0 h), stretch_more (λ mark. mark) m (get_or marks i 0) (drop (suc i) marks) e, ap (λ (n : ℕ). stretch (λ mark. mark) m (drop n marks)) (add-one i))
-
-pub same_first : (marks : List ℕ) (at : ℕ) → at < length marks → SameUpTo marks at (at + 1)
-same_first marks at h = record { some = omega arith; within = omega arith; left = one_more marks (get_or marks at 0) at h refl }
-
-pub same_more : (marks : List ℕ) (at i : ℕ) → i < length marks → get_or marks i 0 ≡ get_or marks at 0 → SameUpTo marks at i → SameUpTo marks at (i + 1)
-same_more marks at i h e p = record {
-  some = omega (arith, p.some);
-  within = omega arith;
-  left = p.left ∙ one_more marks (get_or marks at 0) i h e;
-}
-
--- Another mark ends the stretch, and so does the end of the marks.
-pub other_ends : (marks : List ℕ) (at i : ℕ) → i < length marks → (get_or marks i 0 ≡ get_or marks at 0 → ⊥) → SameUpTo marks at i → StretchEnds marks at i
-other_ends marks at i h n p =
-    let m = get_or marks at 0 in
-    record {
-      some = p.some;
-      within = p.within;
-      is = omega (arith, p.left, ap (stretch (λ mark. mark) m) (drop-cons marks i 0 h), stretch_ends (λ mark. mark) m (get_or marks i 0) (drop (suc i) marks) n);
-    }
-
-pub last_ends : (marks : List ℕ) (at i : ℕ) → length marks ≤ i → SameUpTo marks at i → StretchEnds marks at i
+-- A stretch is as long as the marks that are the same.
+prefix_stretch : (m : ℕ) (marks : List ℕ) → prefix_len (λ next. next == m) marks ≡ stretch (λ mark. mark) m marks
 unfolding stretch
-last_ends marks at i h p = record {
-  some = p.some;
-  within = p.within;
-  is = omega (arith, p.left, ap (stretch (λ mark. mark) (get_or marks at 0)) (drop_of_length-le marks {i = i} h));
-}
+prefix_stretch m [] = refl
+prefix_stretch m (x ∷ marks) =
+    let one : 1 + prefix_len (λ next. next == m) marks ≡ suc (stretch (λ mark. mark) m marks) = omega (arith, prefix_stretch m marks) in
+    ap (λ (n : ℕ). cond (eqb x m) n 0) one
 
-pub ruleset end-needs = (same_first, same_more, other_ends, last_ends)
+stretch_within : (m : ℕ) (marks : List ℕ) → stretch (λ mark. mark) m marks ≤ length marks
+unfolding stretch
+stretch_within m [] = omega arith
+stretch_within m (x ∷ marks) = go (eqb x m) (stretch_within m marks)
+  where
+    go : (b : Bool) → stretch (λ mark. mark) m marks ≤ length marks → cond b (suc (stretch (λ mark. mark) m marks)) 0 ≤ suc (length marks)
+    go true h = omega arith
+    go false h = omega arith
+
+pub same_ends : (marks lent : List ℕ) (at n : ℕ) → at < length marks → lent ≡ drop at marks → n ≡ prefix_len (λ next. next == get_or marks at 0) lent → StretchEnds marks at (at + n)
+same_ends marks lent at n h l e =
+    let m = get_or marks at 0 in
+    let is : n ≡ stretch (λ mark. mark) m (drop at marks) = e ∙ ap (prefix_len (λ next. next == m)) l ∙ prefix_stretch m (drop at marks) in
+    record {
+      some =
+          omega (arith, is, ap (stretch (λ mark. mark) m) (drop-cons marks at 0 h), stretch_more (λ mark. mark) m m (drop (suc at) marks) refl);
+      within = omega (arith, is, stretch_within m (drop at marks), length-drop at marks);
+      is = omega (arith, is);
+    }
 
 -- ---- stretch by stretch
 

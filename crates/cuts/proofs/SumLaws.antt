@@ -7,6 +7,7 @@ use lib.ListN.{length, take, drop, get_or, length-drop, set, take-append-drop}
 use lib.Bits.{bit_or}
 use lib.Seq.{take-suc, take_all}
 use native.Mathlib.Nat.{le_of_eq}
+use Rattle.std.specs.List.{fold, sum}
 use Rattle.cuts.specs.Runs.{runs_of}
 use Rattle.cuts.specs.Block.{Row, row, total, union, value_bytes, row_count, bytes_of, block_bytes}
 
@@ -34,6 +35,18 @@ unfolding total
 total_drop_le l zero = omega arith
 total_drop_le [] (suc k) = omega arith
 total_drop_le (x ∷ l) (suc k) = omega (arith, total_drop_le l k)
+
+-- They are the library's sum.
+total_from : (a : ℕ) (l : List ℕ) → fold (λ (a x : ℕ). a + x) a l ≡ a + total l
+unfolding total
+total_from a [] = omega arith
+total_from a (x ∷ l) = omega (arith, total_from (a + x) l)
+
+pub total_sum : (l : List ℕ) (n : ℕ) → n ≡ sum l → n ≡ total l
+total_sum l n e = omega (arith, total_from 0 l)
+
+pub sum_total : (l : List ℕ) → sum l ≡ total l
+sum_total l = total_sum l (sum l) refl
 
 -- The end of a list as the code lends it.
 abbrev pub end : List ℕ → ℕ → List ℕ

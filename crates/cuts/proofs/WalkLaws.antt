@@ -1,32 +1,19 @@
 -- Steps of going along the first blocks and writing the cut list.
-use mathlib.Core.Path.{◌≡◌, refl, sym, ap, ap₂, ◌∙◌}
+use mathlib.Core.Path.{◌≡◌, refl, sym, ap, ◌∙◌}
 use mathlib.Core.List.{List, [], ◌∷◌, ◌++◌, append_assoc, append-nil}
 use Prim.Native.Nat.{ℕ, ◌≤◌, ◌<◌, zero, suc, ◌+◌, pred, ◌-◌, min}
 use native.Mathlib.Omega.{arith}
-use lib.ListN.{length, take, drop, get_or, drop_of_length-le, set, length-set}
+use lib.ListN.{length, take, drop, get_or, drop_of_length-le, length-drop, set, length-set}
 use native.Mathlib.Numerals.{add-one}
 use lib.Seq.{drop-cons, drop-drop, take-nil, drop-set-lt, take-suc-set}
-use mir.Val.{Fits}
-use mir.Syntax.{w16}
 use native.Mathlib.Nat.{zero-min, suc-min-suc}
+use Rattle.std.specs.List.{sum}
 use Rattle.cuts.specs.Walk.{block_rows, Walkable, Written}
 use Rattle.cuts.specs.Block.{most_rows, total}
 use Rattle.cuts.specs.declared.cut_list.Walk.{Walk}
-use Rattle.cuts.proofs.SumLaws.{total_take, total_take_le, total_drop_le, end_is}
+use Rattle.cuts.proofs.SumLaws.{sum_total, total_take_le, total_drop_le}
 
 -- ---- the rows of the first runs
-
--- The numbers are added up one by one.
-pub sum_start : (counts : List ℕ) → 0 ≡ total (take 0 counts)
-unfolding total
-sum_start counts = refl
-
-pub sum_step : (counts : List ℕ) (k n f s : ℕ) → k < n → n ≡ min f (length counts) → s ≡ total (take k counts) → s + get_or counts k 0 ≡ total (take (k + 1) counts)
-sum_step counts k n f s h m e = omega (arith, total_take counts k (omega arith), ap (λ (n : ℕ). total (take n counts)) (add-one k))
-
--- No sum passes what a number holds.
-pub sum_low : (counts : List ℕ) (k n f s : ℕ) → k < n → n ≡ min f (length counts) → s ≡ total (take k counts) → total counts ≤ most_rows → Fits w16 (s + get_or counts k 0)
-sum_low counts k n f s h m e g = record { fits = omega (arith, total_take counts k (omega arith), total_take_le counts (suc k)) }
 
 -- No more numbers are taken than there are.
 take_min : (f : ℕ) (counts : List ℕ) → take (min f (length counts)) counts ≡ take f counts
@@ -34,10 +21,15 @@ take_min zero counts = ap (λ (n : ℕ). take n counts) (zero-min (length counts
 take_min (suc f) [] = take-nil (min (suc f) 0)
 take_min (suc f) (x ∷ counts) = rw suc-min-suc (ap (λ (t : List ℕ). x ∷ t) (take_min f counts))
 
-pub sum_all : (counts : List ℕ) (k n f s : ℕ) → k ≤ n → n ≤ k → n ≡ min f (length counts) → s ≡ total (take k counts) → s ≡ total (take f counts)
-sum_all counts k n f s h g m e =
-    let q : k ≡ min f (length counts) = omega arith in
-    e ∙ ap (λ (i : ℕ). total (take i counts)) q ∙ ap total (take_min f counts)
+-- The numbers from i on, up to f of them, where no more are lent than there are.
+part_is : (counts : List ℕ) (i f m : ℕ) → m ≡ min (length counts) (i + f) → take (m - i) (drop i counts) ≡ take f (drop i counts)
+part_is counts i f m e =
+    let n : m - i ≡ min f (length (drop i counts)) = omega (arith, length-drop i counts) in
+    ap (λ (k : ℕ). take k (drop i counts)) n ∙ take_min f (drop i counts)
+
+pub part_few : (counts : List ℕ) (i f m : ℕ) → m ≡ min (length counts) (i + f) → total counts ≤ most_rows → sum (take (m - i) (drop i counts)) ≤ most_rows
+part_few counts i f m e h =
+    omega (arith, sum_total (take (m - i) (drop i counts)), ap total (part_is counts i f m e), total_take_le (drop i counts) f, total_drop_le counts i)
 
 -- ---- the walk
 
@@ -100,26 +92,21 @@ pub walk_few : (firsts counts out₀ out : List ℕ) (i : ℕ) (w : Walk) → i 
 walk_few firsts counts out₀ out i w h v = omega (arith, v.few)
 
 -- As the code has it: f runs were read, and they have r rows.
-pub walk_takes : (firsts counts out₀ out : List ℕ) (i : ℕ) (v : Walk) (f r s : ℕ) → Walkable firsts counts out → i < length firsts → v.skip ≡ 0 → f ≡ get_or firsts i 0
-    → r ≡ total (take f (take (length counts - i) (drop i counts))) → s ≡ pred f
+pub walk_takes : (firsts counts out₀ out : List ℕ) (i : ℕ) (v : Walk) (f m r s : ℕ) → Walkable firsts counts out → i < length firsts → v.skip ≡ 0 → f ≡ get_or firsts i 0
+    → m ≡ min (length counts) (i + f) → r ≡ sum (take (m - i) (drop i counts)) → s ≡ f - 1
     → Written firsts counts out₀ i v out → Written firsts counts out₀ (i + 1) (record { written = v.written + 1; skip = s }) (set out v.written r)
-walk_takes firsts counts out₀ out i v f r s l h z e q d w =
-    walk_begin firsts counts out₀ out i v.written v.skip w h l z s r (d ∙ ap pred e) (q ∙ ap₂ (λ (a : ℕ) (b : List ℕ). total (take a b)) e (end_is counts i))
+walk_takes firsts counts out₀ out i v f m r s l h z e p q d w =
+    walk_begin firsts counts out₀ out i v.written v.skip w h l z s r (omega (arith, ap pred e))
+    (q ∙ sum_total (take (m - i) (drop i counts)) ∙ ap total (part_is counts i f m p) ∙ ap (λ (n : ℕ). total (take n (drop i counts))) e)
 
 pub walk_passes : (firsts counts out₀ out : List ℕ) (i : ℕ) (v : Walk) → Walkable firsts counts out → i < length firsts → (v.skip ≡ 0 → ⊥)
     → Written firsts counts out₀ i v out → Written firsts counts out₀ (i + 1) (record { written = v.written; skip = v.skip - 1 }) out
 walk_passes firsts counts out₀ out i v l h z r = walk_inside firsts counts out₀ out i v.written v.skip r h l z
 
--- The rows of the runs from i on are few.
-pub walk_sum : (firsts counts out : List ℕ) (i : ℕ) → Walkable firsts counts out → total (take (length counts - i) (drop i counts)) ≤ most_rows
-walk_sum firsts counts out i l = omega (arith, ap total (end_is counts i), total_drop_le counts i, l.few)
-
 -- The room stays.
 pub walk_keeps : (firsts counts out₀ out : List ℕ) (i : ℕ) (w : Walk) → Walkable firsts counts out₀ → Written firsts counts out₀ i w out → Walkable firsts counts out
 walk_keeps firsts counts out₀ out i w l v = record { same = l.same; room = omega (arith, l.room, v.same); few = l.few }
 
-pub ruleset rows-needs = (sum_start, sum_step, sum_low, sum_all)
-
-pub ruleset walk-needs = (walk_takes, walk_passes, walk_sum)
+pub ruleset walk-needs = (part_few, walk_takes, walk_passes)
 
 pub ruleset write-needs = (walk_start, walk_end, walk_few, walk_keeps)

@@ -1,5 +1,6 @@
 // Stretches of neighbouring rows with one mark. A block holds rows of one mark, so each stretch is cut by itself.
-ghost use Rattle.std.specs.Prelude.{◌≡◌, ◌<◌, length};
+ghost use Rattle.std.specs.Prelude.{◌≡◌, ◌==◌, ◌<◌, length};
+ghost use Rattle.std.specs.List.{prefix_len};
 ghost use Rattle.cuts.specs.Cuts.{same_mark};
 ghost use Rattle.cuts.specs.Plan.{marked_rows, marked_bytes, Planned};
 ghost use Rattle.cuts.specs.Runs.{Ready};
@@ -34,14 +35,12 @@ fn stretch_end(marks: &[u8], at: usize) -> usize
     requires { at < length marks.now }
     ensures { StretchEnds marks.now at result }
 {
-    let mark = marks[at];
-    let mut i = at + 1;
-    while i < marks.len() {
-        let next = marks[i];
-        if next != mark {
-            return i;
-        }
-        i += 1;
-    }
-    i
+    at + same_marks(&marks[at..], marks[at])
+}
+
+// How many marks from the first on are this one.
+fn same_marks(marks: &[u8], mark: u8) -> usize
+    ensures { result ≡ prefix_len (λ next. next == mark) marks.now }
+{
+    marks.iter().take_while(|next| **next == mark).count()
 }

@@ -12,8 +12,5 @@ offset_bounds-after-end c = search (rules, anew-needs)
 pub bounds-after-end : goal.bounds-after-end
 bounds-after-end c = search (rules, anew-needs)
 
-pub overflow_add-cost : goal.overflow_add-cost
-overflow_add-cost c = search (rules, anew-needs)
-
 pub returns : goal.returns
 returns c = search (rules, anew-needs)

@@ -9,6 +9,3 @@ abbrev pub invariant-loop-i : goal.invariant-loop-i
 invariant-loop-i l =
     (l.i ≤ length l.sets) × (length l.run_sets ≡ length l.initial.run_sets) × (length l.run_sizes ≡ length l.initial.run_sizes)
     × (length l.run_counts ≡ length l.initial.run_counts) × Pressed l.sets l.sizes l.i l.run_sets l.run_sizes l.run_counts l.j
-
-abbrev pub decreases-loop-i : goal.decreases-loop-i
-decreases-loop-i l = l.i

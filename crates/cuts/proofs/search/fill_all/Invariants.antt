@@ -9,6 +9,3 @@ use Rattle.cuts.proofs.search.fill_all.Given as goal
 
 abbrev pub invariant-loop-i : goal.invariant-loop-i
 invariant-loop-i l = (l.n ≡ length l.sets) × (l.i ≤ length l.sets) × Filled all_more (runs_of l.sets l.sizes l.counts) l.i l.costs l.firsts × TailIs (drop l.i (runs_of l.sets l.sizes l.counts)) (drop (l.i + 1) l.costs) l.tail
-
-abbrev pub decreases-loop-i : goal.decreases-loop-i
-decreases-loop-i l = l.i
