@@ -5,6 +5,7 @@ use mathlib.Core.Bool.{Bool, true, false, not, ◌||◌}
 use mathlib.Core.List.{List, [], ◌∷◌}
 use native.Mathlib.Omega.{arith}
 use lib.Dec.{T, eqb, eqb-zero-suc}
+use Rattle.std.specs.Prelude.{Result, Ok, Err}
 use lib.ListN.{length, get_or, get_or-eq_default}
 use Rattle.text.specs.Class.{leading, is_only}
 use Rattle.text.specs.Part.{starts}
@@ -12,43 +13,30 @@ use Rattle.text.proofs.Table.{below}
 use Rattle.refusal.specs.declared.Kind.TheVariants.{WrongForm}
 use Rattle.value.specs.Characters.{alphanumeric}
 use Rattle.value.specs.Check.{less_value}
-use Rattle.value.specs.declared.Value.{Value}
-use Rattle.value.specs.declared.Value.TheVariants as Values
 use Rattle.value.specs.Designation.{is_numbered_comet, perm_id, is_minor_planet, is_comet, prov_id, art_sat}
 use Rattle.value.specs.Numeral.{is_digits, is_count}
-use Rattle.element.specs.Form.{value_of, check_of, fault_of, has_value}
+use Rattle.element.specs.Form.{value_of, fault_of, has_value}
 use Rattle.element.specs.Table.{elements, forms, form_of}
 use Rattle.element.specs.declared.form.Form.TheVariants.{Unknown}
-use Rattle.element.specs.declared.form.Check.TheVariants.{Fine, Bad}
-
--- A value tells the same fault without its number.
-pub less_check : (v : Value) → check_of (less_value v) ≡ check_of v
-less_check (Values.Bad kind) = refl
-less_check Values.NoValue = refl
-less_check (Values.Whole whole) = refl
-less_check (Values.Decimal whole places) = refl
-less_check (Values.Time day microseconds) = refl
-less_check (Values.Angle units) = refl
-less_check (Values.Scaled negative high low power) = refl
 
 -- An absent element has no fault.
-pub fault_absent : (index : ℕ) → fault_of index [] ≡ Fine
+pub fault_absent : (index : ℕ) → fault_of index [] ≡ Ok tt
 unfolding fault_of
 fault_absent index = refl
 
 -- A text of no bytes has no fault.
-pub fault_empty : (index : ℕ) (text : List ℕ) → length text ≡ 0 → fault_of index text ≡ Fine
+pub fault_empty : (index : ℕ) (text : List ℕ) → length text ≡ 0 → fault_of index text ≡ Ok tt
 fault_empty index [] e = fault_absent index
 fault_empty index (b ∷ text) e = absurd (omega arith)
 
 -- A text of some bytes has the fault that its value says.
-pub fault_present : (index : ℕ) (text : List ℕ) → (length text ≡ 0 → ⊥) → fault_of index text ≡ check_of (value_of index text)
+pub fault_present : (index : ℕ) (text : List ℕ) → (length text ≡ 0 → ⊥) → fault_of index text ≡ less_value (value_of index text)
 unfolding fault_of
 fault_present index [] h = absurd (h refl)
 fault_present index (b ∷ text) h = refl
 
 -- A value of the first four elements that begins with `#` has the wrong form.
-hashed : (index : ℕ) → index < 4 → (text : List ℕ) → fault_of index (35 ∷ text) ≡ Bad WrongForm
+hashed : (index : ℕ) → index < 4 → (text : List ℕ) → fault_of index (35 ∷ text) ≡ Err WrongForm
 unfolding fault_of value_of perm_id prov_id art_sat alphanumeric is_numbered_comet is_minor_planet is_comet is_count is_digits is_only leading starts
 hashed zero h text = refl
 hashed (suc zero) h text = refl
@@ -57,12 +45,10 @@ hashed (suc (suc (suc zero))) h text = rw (eqb-zero-suc (length text))
 hashed (suc (suc (suc (suc index)))) h text = absurd (omega arith)
 
 -- A value of the first four elements without a fault does not begin with `#`.
-pub unhashed : (index : ℕ) → index < 4 → (text : List ℕ) → fault_of index text ≡ Fine → get_or text 0 0 ≡ 35 → ⊥
+pub unhashed : (index : ℕ) → index < 4 → (text : List ℕ) → fault_of index text ≡ Ok tt → get_or text 0 0 ≡ 35 → ⊥
 unhashed index h [] fine e = omega arith
 unhashed index h (b ∷ text) fine e =
-    let bad : Fine ≡ Bad WrongForm = sym fine ∙ ap (λ (n : ℕ). fault_of index (n ∷ text)) e ∙ hashed index h text in
-    let z : ◌≡◌ {A = ℕ} 0 1 = cc in
-    omega arith
+    let bad = sym fine ∙ ap (λ (n : ℕ). fault_of index (n ∷ text)) e ∙ hashed index h text in cc
 
 -- Past the elements there is no form.
 pub form_past : (index : ℕ) → elements ≤ index → Unknown ≡ form_of index

@@ -8,13 +8,15 @@ use lib.Dec.{T, eqb, leb, ltb, eqb→eq, leb→le}
 use lib.ListN.{length, get_or, take, drop, length-drop, get_or-eq_default}
 use lib.Seq.{drop-cons, get_or-drop}
 use native.Mathlib.Omega.{arith}
-use borrow.Author.Tests.{ltb-true, ltb-false, leb-true, eqb-false}
+use borrow.Author.Tests.{ltb-true, ltb-false, lt-ltb, leb-true, eqb-false}
+use Rattle.std.specs.Prelude.{Option, Some, None}
+use Rattle.text.specs.Numbered.{numbered}
 use Rattle.text.specs.Part.{same}
 use Rattle.text.proofs.Bools.{T_true, bools}
 use Rattle.text.proofs.Parts.{same_is}
 use Rattle.text.proofs.Table.{passes, below}
 use Rattle.element.specs.Names.{all_names, name_starts}
-use Rattle.element.specs.Table.{elements, table, names, name_of, index_in, index_of}
+use Rattle.element.specs.Table.{elements, table, names, name_of, index_in, index_of, found_index, element_number}
 
 -- The table has as many rows as there are elements.
 pub table_length : length table ≡ elements
@@ -104,6 +106,32 @@ index_later name from h =
     let inside : place < length (drop from names) = omega (arith, h, length-drop from names) in
     let stands : same name (name_of (from + place)) ≡ true = rw (← get_or-drop from names place []) (found (drop from names) name inside) in
     sym (ap index_of (same_is name _ stands) ∙ index_name (from + place) h)
+
+-- An index below the number of elements is found.
+pub found_at : (index n : ℕ) → index < elements → n ≡ index → Some index ≡ found_index n
+found_at index n h e = rw (e, lt-ltb index elements h)
+
+-- What is found from an index on is the index of the name, and so is what is found from the first one on.
+pub found_later : (name : List ℕ) (from index : ℕ) → Some index ≡ found_index (from + index_in (drop from names) name) → Some index ≡ found_index (index_of name)
+found_later name from index e =
+    let n = from + index_in (drop from names) name in
+    bools (ltb n elements) (λ t. rw (← index_later name from (ltb-true n elements t)) e) (λ t. let none = rw t at e in cc)
+
+pub found_first : (name : List ℕ) → found_index (0 + index_in (drop 0 names) name) ≡ found_index (index_of name)
+unfolding index_of
+found_first name = ap found_index (omega arith)
+
+-- The number of a name is one more than its index.
+pub number_some : (name : List ℕ) (index : ℕ) → Some index ≡ found_index (index_of name) → Some (index + 1) ≡ numbered (element_number name)
+unfolding element_number
+number_some name index e =
+    bools (ltb (index_of name) elements)
+    (λ t. let same = rw t at e in rw (t, add-one) (let i : index ≡ index_of name = cc in rw (i, add-one)))
+    (λ t. let none = rw t at e in cc)
+
+pub number_none : (name : List ℕ) → None ≡ found_index (index_of name) → None ≡ numbered (element_number name)
+unfolding element_number
+number_none name e = bools (ltb (index_of name) elements) (λ t. let some = rw t at e in cc) (λ t. rw t)
 
 -- What a test finds of every name holds of each.
 pub every_name : (test : List ℕ → Bool) → T (passes (λ index. test (name_of index)) elements) → (index : ℕ) → index < elements → test (name_of index) ≡ true

@@ -2,14 +2,14 @@
 use Prim.Native.Nat.{ℕ, ◌-◌}
 use mathlib.Core.Path.{◌≡◌}
 use mathlib.Core.List.{List, [], ◌∷◌}
+use Rattle.std.specs.Prelude.{Err}
 use Rattle.refusal.specs.declared.Kind.TheVariants.{TooWide}
-use Rattle.value.specs.declared.Value.TheVariants.{Bad}
 use Rattle.value.proofs.TooWide.{perm_id_narrow, prov_id_narrow, art_sat_narrow, mode_narrow, system_narrow, obs_time_narrow, right_ascension_narrow, declination_narrow, flag_narrow}
 use Rattle.element.specs.Form.{value_of}
 
 -- No text gives 8 as a value of the element of the number.
 abbrev pub Never : ℕ → Type 0
-Never number = (text : List ℕ) → value_of (number - 1) text ≡ Bad TooWide → ⊥
+Never number = (text : List ℕ) → value_of (number - 1) text ≡ Err TooWide → ⊥
 
 infixr 4 ◌and◌
 -- No text gives 8 as a value of any of the elements of these numbers.

@@ -24,15 +24,6 @@ use Rattle.element.specs.Observation.{Observation, is_present, is_radar, is_rada
 pub has_not : (set e : ℕ) → set < 2 ^ 64 → 64 ≤ e → has set e ≡ false
 has_not set e h k = rw (div-eq_of_lt (lt_of_lt_of_le h (pow-le-pow_right {n = 2} (lit< tt) {i = 64} {j = e} k)))
 
--- One set more, and the end.
-pub joined_next : (sets : List ℕ) (all i : ℕ) → i < length sets → joined (bit_or all (get_or sets i 0)) (drop (i + 1) sets) ≡ joined all (drop i sets)
-unfolding joined
-joined_next sets all i h = rw (drop-cons sets i 0 h, add-one i)
-
-pub joined_end : (sets : List ℕ) (all i : ℕ) → length sets ≤ i → joined all (drop i sets) ≡ all
-unfolding joined
-joined_end sets all i h = rw drop_of_length-le
-
 -- ---- lengths
 
 -- A length where the bit is set.

@@ -1,8 +1,10 @@
 -- The value or the fault of a text as a value of an element.
-use Rattle.std.specs.Prelude.{ℕ, Bool, true, false, List, [], ◌∷◌}
+use Rattle.std.specs.Prelude.{ℕ, Bool, true, false, Result, Ok, Err, List, [], ◌∷◌}
+use Rattle.refusal.specs.declared.Kind.{Kind}
 use Rattle.refusal.specs.declared.Kind.TheVariants.{WrongForm}
 use Rattle.value.specs.Angle.{right_ascension, declination}
 use Rattle.value.specs.Centre.{centre}
+use Rattle.value.specs.Check.{less_value}
 use Rattle.value.specs.Characters.{alphanumeric, free}
 use Rattle.value.specs.Covariance.{covariance}
 use Rattle.value.specs.Decimal.{decimal, correlation}
@@ -10,16 +12,13 @@ use Rattle.value.specs.Designation.{perm_id, prov_id, art_sat}
 use Rattle.value.specs.Time.{obs_time}
 use Rattle.value.specs.Word.{mode, system, flag}
 use Rattle.value.specs.declared.Value.{Value}
-use Rattle.value.specs.declared.Value.TheVariants as Values
 use Rattle.element.specs.Table.{form_of}
 use Rattle.element.specs.declared.form.Form.{Form}
 use Rattle.element.specs.declared.form.Form.TheVariants.{Unknown, PermID, ProvID, ArtSat, Alphanumeric, Free, Mode, System, Centre, Decimal, Correlation, Time, RightAscension, Declination, Flag, Covariance}
-use Rattle.element.specs.declared.form.Check.{Check}
-use Rattle.element.specs.declared.form.Check.TheVariants.{Fine, Bad}
 
 -- The rule of each form. A text of no element has the wrong form.
-abbrev pub value_in : Form → List ℕ → Value
-value_in Unknown text = Values.Bad WrongForm
+abbrev pub value_in : Form → List ℕ → Result Value Kind
+value_in Unknown text = Err WrongForm
 value_in PermID text = perm_id text
 value_in ProvID text = prov_id text
 value_in ArtSat text = art_sat text
@@ -37,23 +36,13 @@ value_in Flag text = flag text
 value_in Covariance text = covariance text
 
 -- The value of a text as a value of the element of an index.
-unfoldable pub value_of : ℕ → List ℕ → Value
+unfoldable pub value_of : ℕ → List ℕ → Result Value Kind
 value_of index text = value_in (form_of index) text
 
--- What a value says of its text.
-abbrev pub check_of : Value → Check
-check_of (Values.Bad kind) = Bad kind
-check_of Values.NoValue = Fine
-check_of (Values.Whole whole) = Fine
-check_of (Values.Decimal whole places) = Fine
-check_of (Values.Time day microseconds) = Fine
-check_of (Values.Angle units) = Fine
-check_of (Values.Scaled negative high low power) = Fine
-
 -- The fault of a text as a value of the element of an index. An empty value means the element is absent: it has none.
-unfoldable pub fault_of : ℕ → List ℕ → Check
-fault_of index [] = Fine
-fault_of index (byte ∷ text) = check_of (value_of index (byte ∷ text))
+unfoldable pub fault_of : ℕ → List ℕ → Result Unit Kind
+fault_of index [] = Ok tt
+fault_of index (byte ∷ text) = less_value (value_of index (byte ∷ text))
 
 -- Values of this form have a value.
 abbrev pub is_valued : Form → Bool

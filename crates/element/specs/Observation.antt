@@ -1,11 +1,12 @@
 -- What one observation must hold. An observation is the list of its values by index, empty where an element is absent.
-use Rattle.std.specs.Prelude.{ℕ, ◌+◌, ◌-◌, ◌*◌, Bool, true, false, not, cond, ◌&&◌, ◌||◌, List, [], ◌∷◌, ◌++◌, eqb, get_or}
+use Rattle.std.specs.Prelude.{ℕ, ◌+◌, ◌-◌, ◌*◌, Bool, true, false, not, cond, ◌&&◌, ◌||◌, List, [], ◌∷◌, ◌++◌, Result, Ok, Err, eqb, get_or}
+use Rattle.std.specs.List.{list_any}
 use Rattle.text.specs.Bytes.{bytes}
 use Rattle.text.specs.Part.{same}
 use Rattle.refusal.specs.declared.Kind.{Kind}
 use Rattle.refusal.specs.declared.Kind.TheVariants.{ElementMissing, GroupIncomplete, CentreNotEarth, ElementForeign}
 use Rattle.refusal.specs.declared.Fault.{Fault}
-use Rattle.refusal.specs.declared.Fault.TheVariants.{Sound, At}
+use Rattle.refusal.specs.Paper.{at}
 use Rattle.element.specs.Set.{has}
 use Rattle.element.specs.Table.{upward}
 
@@ -24,8 +25,7 @@ value_at number observation = get_or observation (number - 1) []
 
 -- At least one of the elements of these numbers is held.
 unfoldable pub holds_any : List ℕ → (ℕ → Bool) → Bool
-holds_any [] holds = false
-holds_any (number ∷ numbers) holds = holds number || holds_any numbers holds
+holds_any numbers holds = list_any holds numbers
 
 -- The first of these numbers whose element is not held, 0 where all are.
 unfoldable pub first_missing : List ℕ → (ℕ → Bool) → ℕ
@@ -65,8 +65,8 @@ abbrev pub correlation_needs : List ℕ
 correlation_needs = 19 ∷ 20 ∷ []
 
 -- A place where an element is missing is a fault of the kind; at 0 none is missing, and the rest decides.
-abbrev pub missing_at : Kind → ℕ → Fault → Fault
-missing_at kind place rest = cond (eqb place 0) rest (At kind place)
+abbrev pub missing_at : Kind → ℕ → Result Unit Fault → Result Unit Fault
+missing_at kind place rest = cond (eqb place 0) rest (Err (at kind place))
 
 -- Where any of a group is held its needs are: the lowest that is missing, or 0.
 unfoldable pub group_missing : List ℕ → List ℕ → (ℕ → Bool) → ℕ
@@ -74,20 +74,20 @@ group_missing group needs holds = cond (holds_any group holds) (first_missing ne
 
 -- Location: elements 9 to 13 all or none, and all where any of 38 to 43 is present. Photometry: if any of 23 to 27 is present, mag and band are.
 -- rmsCorr needs rmsRA and rmsDec. With WGS84, ctr is 399.
-unfoldable pub group_fault : (ℕ → Bool) → Bool → Bool → Fault
+unfoldable pub group_fault : (ℕ → Bool) → Bool → Bool → Result Unit Fault
 group_fault holds wgs84 earth =
     missing_at GroupIncomplete (group_missing (location ++ covariances) location holds)
     (missing_at GroupIncomplete (group_missing photometry photometry_needs holds)
     (missing_at GroupIncomplete (group_missing correlation correlation_needs holds)
-    (cond (wgs84 && not earth) (At CentreNotEarth 10) Sound)))
+    (cond (wgs84 && not earth) (Err (at CentreNotEarth 10)) (Ok tt))))
 
 -- An optical observation: at least one of elements 1 to 4, and all of mode, stn, obsTime, ra, dec, astCat; then the groups.
 -- It is 11, identification first, then by element number; 12 for location, photometry, correlation; 13.
-unfoldable pub optical_fault : (ℕ → Bool) → Bool → Bool → Fault
+unfoldable pub optical_fault : (ℕ → Bool) → Bool → Bool → Result Unit Fault
 optical_fault holds wgs84 earth =
     cond (holds_any identification holds)
     (missing_at ElementMissing (first_missing needed holds) (group_fault holds wgs84 earth))
-    (At ElementMissing 1)
+    (Err (at ElementMissing 1))
 
 -- The first of these numbers whose element is held, 0 where none is.
 unfoldable pub first_held : List ℕ → (ℕ → Bool) → ℕ
@@ -119,15 +119,15 @@ unfoldable pub radar_missing : (ℕ → Bool) → ℕ
 radar_missing holds = cond (holds_any radar_identification holds) (first_missing (radar_needed (holds 34)) holds) 1
 
 -- A place where an element is foreign is 22; at 0 none is, and the rest decides.
-abbrev pub foreign_at : ℕ → Fault → Fault
-foreign_at place rest = cond (eqb place 0) rest (At ElementForeign place)
+abbrev pub foreign_at : ℕ → Result Unit Fault → Result Unit Fault
+foreign_at place rest = cond (eqb place 0) rest (Err (at ElementForeign place))
 
 -- A radar observation: 22 for the lowest foreign element, then 11 for what it lacks.
-unfoldable pub radar_fault : (ℕ → Bool) → Fault
-radar_fault holds = foreign_at (first_held (foreign (holds 34)) holds) (missing_at ElementMissing (radar_missing holds) Sound)
+unfoldable pub radar_fault : (ℕ → Bool) → Result Unit Fault
+radar_fault holds = foreign_at (first_held (foreign (holds 34)) holds) (missing_at ElementMissing (radar_missing holds) (Ok tt))
 
 -- An observation is radar where any of 30 to 37 is present, else optical.
-unfoldable pub fault_in : (ℕ → Bool) → Bool → Bool → Fault
+unfoldable pub fault_in : (ℕ → Bool) → Bool → Bool → Result Unit Fault
 fault_in holds wgs84 earth = cond (holds_any radar holds) (radar_fault holds) (optical_fault holds wgs84 earth)
 
 -- The element of a number is present in the observation.
@@ -147,7 +147,7 @@ unfoldable pub is_earth : Observation → Bool
 is_earth observation = same (value_at 10 observation) (bytes "399")
 
 -- The fault of an observation.
-unfoldable pub observation_fault : Observation → Fault
+unfoldable pub observation_fault : Observation → Result Unit Fault
 observation_fault observation = fault_in (is_held observation) (is_wgs84 observation) (is_earth observation)
 
 -- A test as a bit.
@@ -168,5 +168,5 @@ unfoldable pub is_radar_set : ℕ → Bool
 is_radar_set set = holds_any radar (is_in set)
 
 -- The fault of an observation, from the set of its elements.
-unfoldable pub set_fault : ℕ → Bool → Bool → Fault
+unfoldable pub set_fault : ℕ → Bool → Bool → Result Unit Fault
 set_fault set wgs84 earth = fault_in (is_in set) wgs84 earth

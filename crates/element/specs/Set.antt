@@ -1,5 +1,5 @@
 -- Sets of elements. A set is a number whose bit e stands for index e.
-use Rattle.std.specs.Prelude.{ℕ, zero, suc, ◌+◌, ◌/◌, ◌%◌, ◌^◌, Bool, List, [], ◌∷◌, map, eqb, length}
+use Rattle.std.specs.Prelude.{ℕ, zero, suc, ◌+◌, ◌/◌, ◌%◌, ◌^◌, Bool, List, [], ◌∷◌, fold, map, eqb, length}
 use Rattle.std.specs.Int.Bits.{bit_or}
 use Rattle.element.specs.Table.{names}
 
@@ -9,8 +9,7 @@ has set index = eqb (set / 2 ^ index % 2) 1
 
 -- The set of the elements that are in one of the sets, or in the one that is given.
 unfoldable pub joined : ℕ → List ℕ → ℕ
-joined set [] = set
-joined set (other ∷ others) = joined (bit_or set other) others
+joined set others = fold bit_or set others
 
 -- A length where the bit is set, else 0.
 abbrev pub length_if : ℕ → ℕ → ℕ

@@ -1,6 +1,6 @@
 -- The elements in their order: the names and the forms of document 01's table, from 30 on of document 02's order 3, from 38
 -- on of its order 5. An element's index is its number less one.
-use Rattle.std.specs.Prelude.{ℕ, zero, suc, ◌+◌, true, false, cond, List, [], ◌∷◌, ◌++◌, map, ltb, get_or}
+use Rattle.std.specs.Prelude.{ℕ, zero, suc, ◌+◌, true, false, cond, List, [], ◌∷◌, ◌++◌, Option, Some, None, map, ltb, get_or}
 use Prim.Native.String.{String}
 use Rattle.text.specs.Bytes.{bytes}
 use Rattle.text.specs.Part.{same}
@@ -102,6 +102,10 @@ index_in (first ∷ rest) name = cond (same name first) 0 (suc (index_in rest na
 -- The index of the element of a name; the number of elements where there is none.
 unfoldable pub index_of : List ℕ → ℕ
 index_of name = index_in names name
+
+-- An index below the number of elements; none where it is not below it.
+abbrev pub found_index : ℕ → Option ℕ
+found_index index = cond (ltb index elements) (Some index) None
 
 -- The number of the element of a name, 1 to 43; 0 where there is none.
 unfoldable pub element_number : List ℕ → ℕ

@@ -15,31 +15,22 @@ const PART: usize = 22;
 pub fn has(set: u64, index: usize) -> bool
     ensures { result ≡ has set index }
 {
-    if index < 64 {
-        (set >> index) % 2 == 1
-    } else {
-        false
-    }
+    index < 64 && (set >> index) % 2 == 1
 }
 
 // How many elements the set has.
 pub fn count(set: u64) -> u64
     ensures { (result ≡ ones set) × (result ≤ 64) }
 {
-    u64::count_ones(set) as u64
+    u64::from(set.count_ones())
 }
 
 // The set of the elements that are in one of the sets at least.
+#[tactic(auto, unfolding(crate::specs::Set::joined))]
 pub fn join(sets: &[u64]) -> u64
     ensures { result ≡ joined 0 sets.now }
 {
-    let mut all: u64 = 0;
-    let mut i: usize = 0;
-    while i < sets.len() {
-        all = all | sets[i];
-        i += 1;
-    }
-    all
+    sets.iter().fold(0, |all, set| all | *set)
 }
 
 // The bytes of the names of the set's elements.
@@ -58,23 +49,16 @@ fn name_bytes_in(set: u64, starts: &[u8]) -> u64
     let mut sum: u64 = 0;
     let mut e: usize = 0;
     while left != 0 {
-        let skip = u64::trailing_zeros(left) as usize;
+        let skip = left.trailing_zeros() as usize;
         let next = e + skip;
         if ELEMENTS <= next {
             return sum;
         }
-        sum += wide(length_in(starts, next));
+        sum += u64::from(length_in(starts, next));
         left = (left >> skip) / 2;
         e = next + 1;
     }
     sum
-}
-
-// A number of 16 bits as one of 64.
-fn wide(number: u16) -> u64
-    ensures { result ≡ number }
-{
-    number as u64
 }
 
 // The bytes of the values of the set's elements, from the lengths noted for all elements; a length that is not given counts 0. They are summed
@@ -94,11 +78,9 @@ fn part_bytes(set: u64, lengths: &[u16]) -> u32
 {
     let mut left = set;
     let mut sum: u32 = 0;
-    let mut e: usize = 0;
-    while e < lengths.len() {
-        sum += length_if(left % 2, lengths[e]);
-        left = left / 2;
-        e += 1;
+    for length in lengths {
+        sum += length_if(left % 2, *length);
+        left /= 2;
     }
     sum
 }
@@ -107,5 +89,5 @@ fn part_bytes(set: u64, lengths: &[u16]) -> u32
 fn length_if(bit: u64, length: u16) -> u32
     ensures { (result ≡ length_if bit length) × (result < 65536) }
 {
-    if bit == 0 { 0 } else { length as u32 }
+    if bit == 0 { 0 } else { u32::from(length) }
 }

@@ -1,13 +1,10 @@
 -- `element::name::index_in` meets its contract.
-use borrow.Author.Rules.{rules}
 use mathlib.Core.Path.{◌∙◌}
-use Rattle.element.proofs.Names.{index_later}
-use Rattle.element.specs.Table.{index_of}
+use Rattle.element.proofs.Names.{found_first, found_later}
 use Rattle.element.proofs.name.index_in.Goals as goal
 
-pub returns-then-found-lt-ELEMENTS : goal.returns-then-found-lt-ELEMENTS
-returns-then-found-lt-ELEMENTS c = c.next_in-found.ensures ∙ index_later _ _ (rw c.next_in-found.ensures at c.if-found-lt-ELEMENTS.true)
+pub returns-in-Some : goal.returns-in-Some
+returns-in-Some c = found_later c.args.name.now c.args.hint c.in-Some.index c.in-Some.ensures
 
-pub returns : goal.returns
-unfolding index_of
-returns c = search rules
+pub returns-in-None : goal.returns-in-None
+returns-in-None c = c.next_in-in-None.ensures ∙ found_first c.args.name.now

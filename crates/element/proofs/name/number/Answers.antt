@@ -1,22 +1,11 @@
 -- `element::name::number` meets its contract.
-use borrow.Author.Tests.{le-ltb, lt-ltb}
-use Prim.Native.Nat.{ℕ, ◌+◌}
-use mathlib.Core.Path.{◌≡◌}
-use mathlib.Core.List.{List}
-use native.Mathlib.Omega.{arith}
-use lib.ListN.{drop}
-use Rattle.element.specs.Table.{names, index_in, index_of, element_number}
+use mathlib.Core.Path.{◌∙◌, sym}
+use Rattle.element.proofs.Names.{found_first, number_none, number_some}
 use Rattle.element.proofs.name.number.Goals as goal
 
--- What a search from the first name on finds is the index.
-is-index : (name : List ℕ) (place : ℕ) → place ≡ 0 + index_in (drop 0 names) name → index_of name ≡ place
-unfolding index_of
-is-index name place e = omega arith
+pub returns-in_err-index : goal.returns-in_err-index
+returns-in_err-index c =
+    rw c.from_residual.ensures (number_none c.args.name.now (c.in_err-index.ensures ∙ found_first c.args.name.now))
 
-pub returns-then-place-lt-ELEMENTS : goal.returns-then-place-lt-ELEMENTS
-unfolding element_number
-returns-then-place-lt-ELEMENTS c = rw (is-index _ _ c.next_in-place.ensures, lt-ltb _ _ c.if-place-lt-ELEMENTS.true)
-
-pub returns-else-place-lt-ELEMENTS : goal.returns-else-place-lt-ELEMENTS
-unfolding element_number
-returns-else-place-lt-ELEMENTS c = rw (is-index _ _ c.next_in-place.ensures, le-ltb _ _ c.if-place-lt-ELEMENTS.false)
+pub returns : goal.returns
+returns c = number_some c.args.name.now c.in_ok-index.index (c.in_ok-index.ensures ∙ found_first c.args.name.now)

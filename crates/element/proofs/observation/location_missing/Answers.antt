@@ -1,19 +1,19 @@
 -- `element::observation::location_missing` meets its contract.
-use Rattle.element.proofs.Observations.{any_append}
-use Rattle.element.specs.Observation.{covariances, group_missing, is_in, location}
+use mathlib.Core.Path.{◌∙◌}
+use Rattle.std.proofs.lemmas.List.Folds.{list_any-append}
+use Rattle.element.proofs.Observations.{missing_is}
+use Rattle.element.specs.Observation.{covariances, group_missing, holds_any, is_in, location}
 use Rattle.element.proofs.observation.location_missing.Goals as goal
 
 pub returns-then-holds_any-has_covariance : goal.returns-then-holds_any-has_covariance
-unfolding group_missing
+unfolding group_missing holds_any
 returns-then-holds_any-has_covariance c =
-    let present = c.args.present in
-    let holds-any = c.holds_any in
-    let has-covariance = c.has_covariance in
-    rw (c.first_missing.ensures, any_append location covariances (is_in present), ← holds-any.ensures, ← has-covariance.ensures, c.if-holds_any-has_covariance.true)
+    let holds = is_in c.args.present in
+    rw (list_any-append holds location covariances, ← c.holds_any.ensures, ← c.has_covariance.ensures, c.if-holds_any-has_covariance.true)
+    (c.first_missing.ensures ∙ missing_is holds location tt)
 
 pub returns-else-holds_any-has_covariance : goal.returns-else-holds_any-has_covariance
-unfolding group_missing
+unfolding group_missing holds_any
 returns-else-holds_any-has_covariance c =
-    let present = c.args.present in
-    let holds-any = c.holds_any in
-    rw (any_append location covariances (is_in present), ← holds-any.ensures, ← c.has_covariance.ensures, c.if-holds_any-has_covariance.false)
+    let holds = is_in c.args.present in
+    rw (list_any-append holds location covariances, ← c.holds_any.ensures, ← c.has_covariance.ensures, c.if-holds_any-has_covariance.false)

@@ -7,6 +7,6 @@ pub returns-then-is_radar : goal.returns-then-is_radar
 unfolding set_fault fault_in is_radar_set
 returns-then-is_radar c = rw (c.radar_fault.ensures, sym c.is_radar.ensures ∙ c.if-is_radar.true)
 
-pub returns : goal.returns
+pub returns-else-is_radar : goal.returns-else-is_radar
 unfolding set_fault fault_in is_radar_set
-returns c = rw (c.optical_fault.ensures, sym c.is_radar.ensures ∙ c.if-is_radar.false)
+returns-else-is_radar c = rw (c.optical_fault.ensures, sym c.is_radar.ensures ∙ c.if-is_radar.false)

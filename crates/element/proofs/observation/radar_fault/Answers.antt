@@ -1,23 +1,17 @@
 -- `element::observation::radar_fault` meets its contract.
-use borrow.Author.Tests.{eq-eqb, ne_eqb}
-use mathlib.Core.Path.{sym}
+use mathlib.Core.Path.{◌∙◌}
+use Rattle.std.proofs.lemmas.Result.{err_from_is_err_and}
+use Rattle.element.proofs.Observations.{fault_is, fault_stands, fault_none}
 use Rattle.element.specs.Observation.{radar_fault}
 use Rattle.element.proofs.observation.radar_fault.Goals as goal
 
-pub returns-then-foreign-ne0 : goal.returns-then-foreign-ne0
+pub returns-in_err-fault_at : goal.returns-in_err-fault_at
 unfolding radar_fault
-returns-then-foreign-ne0 c = rw (sym c.first_foreign-foreign.ensures, ne_eqb _ _ c.if-foreign-ne0.true)
-
-pub returns-then-missing-ne0 : goal.returns-then-missing-ne0
-unfolding radar_fault
-returns-then-missing-ne0 c =
-    let first-foreign = c.first_foreign-foreign in
-    let radar-missing = c.radar_missing-missing in
-    rw (sym first-foreign.ensures, eq-eqb _ _ c.if-foreign-ne0.false, sym radar-missing.ensures, ne_eqb _ _ c.if-missing-ne0.true)
+returns-in_err-fault_at c =
+    let p = err_from_is_err_and c.from_residual.result c.from_residual.ensures.1 in
+    rw (p.1, p.2) (fault_stands _ _ _ _ _ _ c.first_foreign.ensures c.fault_at.ensures c.in_err-fault_at.was)
 
 pub returns : goal.returns
 unfolding radar_fault
 returns c =
-    let first-foreign = c.first_foreign-foreign in
-    let radar-missing = c.radar_missing-missing in
-    rw (sym first-foreign.ensures, eq-eqb _ _ c.if-foreign-ne0.false, sym radar-missing.ensures, eq-eqb _ _ c.if-missing-ne0.false)
+    fault_is _ _ _ _ c.radar_missing.ensures c.fault_at-2.ensures ∙ fault_none _ _ _ _ _ _ c.first_foreign.ensures c.fault_at.ensures c.in_ok-fault_at.was

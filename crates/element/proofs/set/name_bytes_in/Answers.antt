@@ -18,7 +18,7 @@ pub returns-then-next-ge-ELEMENTS : goal.returns-then-next-ge-ELEMENTS
 returns-then-next-ge-ELEMENTS c = names_past c.loop-left.invariant.0 c.if-next-ge-ELEMENTS.true
 
 pub overflow_add-sum : goal.overflow_add-sum
-overflow_add-sum c = name_fits c.loop-left.invariant.0 c.loop-left-test.true c.loop-left.invariant.1 c.if-next-ge-ELEMENTS.false _ (c.wide-sum.ensures ∙ c.length_in.ensures)
+overflow_add-sum c = name_fits c.loop-left.invariant.0 c.loop-left-test.true c.loop-left.invariant.1 c.if-next-ge-ELEMENTS.false _ (c.from-sum.ensures ∙ c.length_in.ensures)
 
 pub overflow_shr-left : goal.overflow_shr-left
 overflow_shr-left c = omega (arith, c.if-next-ge-ELEMENTS.false)
@@ -29,7 +29,7 @@ loop-left-smaller c = omega (arith, c.if-next-ge-ELEMENTS.false)
 pub loop-left-preserved : goal.loop-left-preserved
 loop-left-preserved c =
     let inv = c.loop-left.invariant in
-    let length_is = c.wide-sum.ensures ∙ c.length_in.ensures in (
+    let length_is = c.from-sum.ensures ∙ c.length_in.ensures in (
       name_more inv.0 c.loop-left-test.true inv.1 c.if-next-ge-ELEMENTS.false _ length_is,
       left_less inv.0 c.loop-left-test.true inv.1 c.if-next-ge-ELEMENTS.false _ length_is,
     )
