@@ -5,7 +5,7 @@ use mathlib.Core.Bool.{Bool, true, false, not, ◌||◌}
 use mathlib.Core.List.{List, [], ◌∷◌}
 use native.Mathlib.Omega.{arith}
 use lib.Dec.{T, eqb, eqb-zero-suc}
-use Rattle.std.specs.Prelude.{Result, Ok, Err}
+use Rattle.std.specs.Prelude.{Ok, Err}
 use lib.ListN.{length, get_or, get_or-eq_default}
 use Rattle.text.specs.Class.{leading, is_only}
 use Rattle.text.specs.Part.{starts}

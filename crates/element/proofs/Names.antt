@@ -9,7 +9,7 @@ use lib.ListN.{length, get_or, take, drop, length-drop, get_or-eq_default}
 use lib.Seq.{drop-cons, get_or-drop}
 use native.Mathlib.Omega.{arith}
 use borrow.Author.Tests.{ltb-true, ltb-false, lt-ltb, leb-true, eqb-false}
-use Rattle.std.specs.Prelude.{Option, Some, None}
+use Rattle.std.specs.Prelude.{Some, None}
 use Rattle.text.specs.Numbered.{numbered}
 use Rattle.text.specs.Part.{same}
 use Rattle.text.proofs.Bools.{T_true, bools}
@@ -78,11 +78,6 @@ module _ (all : List (List ℕ)) (name : List ℕ) (i : ℕ) (h : i < length all
   pub index_no : same name (get_or all i []) ≡ false → index_in (drop i all) name ≡ suc (index_in (drop (i + 1) all) name)
   unfolding index_in
   index_no e = rw (drop-cons all i [] h, e, add-one)
-
--- Past the last name the search has found nothing.
-pub index_end : (name : List ℕ) (i : ℕ) → i ≡ elements → index_in (drop i names) name ≡ 0
-unfolding index_in
-index_end name i e = rw e
 
 -- The name is found at its place.
 index_test : ℕ → Bool

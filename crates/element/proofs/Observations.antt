@@ -1,14 +1,12 @@
 -- Laws of searches among element numbers, each in the form that a loop asks for, and of identification.
-use Prim.Native.Nat.{ℕ, zero, suc, ◌+◌, ◌-◌, ◌*◌, ◌/◌, ◌%◌, ◌^◌, ◌≤◌, ◌<◌}
+use Prim.Native.Nat.{ℕ, zero, suc, ◌+◌, ◌-◌, ◌*◌, ◌/◌, ◌%◌, ◌^◌, ◌<◌}
 use mathlib.Core.Path.{◌≡◌, refl, sym, ap, ◌∙◌}
-use mathlib.Core.Bool.{Bool, true, false, not, cond, ◌&&◌, ◌||◌}
+use mathlib.Core.Bool.{Bool, true, false, not, cond, ◌||◌}
 use mathlib.Core.List.{List, [], ◌∷◌, ◌++◌}
 use native.Mathlib.Nat.{pow-suc, div-div-eq-div-mul}
-use native.Mathlib.Numerals.{add-one}
 use native.Mathlib.Omega.{arith}
 use lib.Arith.{mod-mul}
 use lib.Dec.{eqb, lit<}
-use lib.ListN.{get_or}
 use Rattle.std.specs.Prelude.{Option, Some, None, Result, Ok, Err, MatchOption, find}
 use Rattle.std.specs.List.{list_any}
 use Rattle.std.specs.Option.{option_or}
@@ -159,8 +157,3 @@ identified o e = fault_identified (is_held o) (is_wgs84 o) (is_earth o) e
 pub optical_sound : (o : Observation) → is_radar o ≡ false → observation_fault o ≡ Ok tt → optical_fault (is_held o) (is_wgs84 o) (is_earth o) ≡ Ok tt
 unfolding observation_fault fault_in is_radar
 optical_sound o n e = rw n at e
-
--- Its first four values are not all empty.
-pub identified_value : (o : Observation) → observation_fault o ≡ Ok tt → ((c : ℕ) → c < 4 → get_or o c [] ≡ []) → ⊥
-unfolding holds_any
-identified_value o e none = never (rw (none 0 (lit< tt), none 1 (lit< tt), none 2 (lit< tt), none 3 (lit< tt)) at (identified o e))

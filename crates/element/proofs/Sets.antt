@@ -13,7 +13,7 @@ use lib.ListN.{length, get_or, take, drop, set, replicate, drop_of_length-le, ge
 use lib.Seq.{set-get_or, drop-cons, drop-drop, drop-nil}
 use mir.Syntax.{w32, w64}
 use mir.Val.{Fits}
-use Rattle.element.specs.Set.{has, joined, length_if, bytes_in, name_lengths, name_bytes}
+use Rattle.element.specs.Set.{has, length_if, bytes_in, name_lengths, name_bytes}
 use Rattle.element.specs.Table.{elements, names, name_of}
 use Rattle.element.proofs.Names.{longest, name_short}
 use Rattle.element.specs.Observation.{Observation, is_present, is_radar, is_radar_set, radar, holds_any, is_wgs84, is_earth, bit, set_of, fault_in, set_fault, observation_fault}
@@ -25,11 +25,6 @@ pub has_not : (set e : ℕ) → set < 2 ^ 64 → 64 ≤ e → has set e ≡ fals
 has_not set e h k = rw (div-eq_of_lt (lt_of_lt_of_le h (pow-le-pow_right {n = 2} (lit< tt) {i = 64} {j = e} k)))
 
 -- ---- lengths
-
--- A length where the bit is set.
-pub length_bit : (bit length : ℕ) → (bit ≡ 0 → ⊥) → length ≡ length_if bit length
-length_bit zero length h = absurd (h refl)
-length_bit (suc bit) length h = refl
 
 -- The lengths from one element on, and past the last one.
 module _ (lengths : List ℕ) (e left : ℕ) where
@@ -89,8 +84,6 @@ module _ {lengths : List ℕ} {set left sum e : ℕ} (a : Adds lengths set left 
   -- The end of the lengths.
   pub adds_all : length lengths ≤ e → sum ≡ bytes_in lengths set
   adds_all h = omega (arith, a.sum_left, bytes_end lengths e left h)
-
-pub ruleset add-needs = (adds_none, adds_more, adds_fit, adds_all)
 
 -- The bytes of a set's first elements, and those of the others.
 pub bytes_parts : (k : ℕ) (lengths : List ℕ) (set : ℕ) → bytes_in (take k lengths) set + bytes_in (drop k lengths) (set / 2 ^ k) ≡ bytes_in lengths set

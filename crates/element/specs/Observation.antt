@@ -1,5 +1,5 @@
 -- What one observation must hold. An observation is the list of its values by index, empty where an element is absent.
-use Rattle.std.specs.Prelude.{ℕ, ◌+◌, ◌-◌, ◌*◌, Bool, true, false, not, cond, ◌&&◌, ◌||◌, List, [], ◌∷◌, ◌++◌, Result, Ok, Err, eqb, get_or}
+use Rattle.std.specs.Prelude.{ℕ, ◌+◌, ◌-◌, ◌*◌, Bool, true, false, not, cond, ◌&&◌, List, [], ◌∷◌, ◌++◌, Result, Ok, Err, eqb, get_or}
 use Rattle.std.specs.List.{list_any}
 use Rattle.text.specs.Bytes.{bytes}
 use Rattle.text.specs.Part.{same}

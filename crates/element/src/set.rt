@@ -40,7 +40,8 @@ pub fn name_bytes(set: u64) -> u64
     name_bytes_in(set, &STARTS)
 }
 
-// The same; `starts` says where each name starts among all names. It goes from one element of the set to the next.
+// The same; `starts` says where each name starts among all names. It goes from one element of the set to the next by the set's bits, and
+// not over all elements: such a loop takes the search for cuts a third more (docs/PROVING.md, "Fast code that is proved").
 fn name_bytes_in(set: u64, starts: &[u8]) -> u64
     requires { starts.now ≡ name_starts }
     ensures { result ≡ name_bytes set }

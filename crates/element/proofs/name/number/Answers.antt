@@ -1,5 +1,5 @@
 -- `element::name::number` meets its contract.
-use mathlib.Core.Path.{◌∙◌, sym}
+use mathlib.Core.Path.{◌∙◌}
 use Rattle.element.proofs.Names.{found_first, number_none, number_some}
 use Rattle.element.proofs.name.number.Goals as goal
 

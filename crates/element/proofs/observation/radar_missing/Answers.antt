@@ -1,7 +1,7 @@
 -- `element::observation::radar_missing` meets its contract.
 use mathlib.Core.Path.{sym, ◌∙◌}
 use Rattle.element.proofs.Observations.{missing_is}
-use Rattle.element.specs.Observation.{holds_any, is_in, radar_needed, radar_missing}
+use Rattle.element.specs.Observation.{holds_any, is_in, radar_missing}
 use Rattle.element.proofs.observation.radar_missing.Goals as goal
 
 pub returns-then-not-holds_any : goal.returns-then-not-holds_any

@@ -2,14 +2,8 @@
 use mathlib.Core.Path.{◌∙◌}
 use native.Mathlib.Omega.{arith}
 use lib.Count.{trailing_le}
-use Rattle.element.proofs.Sets.{adds_none, names_done, names_past, name_more, name_fits, left_less, name_lengths_length}
+use Rattle.element.proofs.Sets.{names_done, names_past, name_more, name_fits, left_less, name_lengths_length}
 use Rattle.element.proofs.set.name_bytes_in.Goals as goal
-
-pub loop-left-init : goal.loop-left-init
-loop-left-init c = (adds_none _ _, c.ranges.set.fits)
-
-pub overflow_cast-skip : goal.overflow_cast-skip
-overflow_cast-skip c = record { fits = omega (arith, trailing_le 64 c.loop-left.left) }
 
 pub overflow_add-next : goal.overflow_add-next
 overflow_add-next c = record { fits = omega (arith, trailing_le 64 c.loop-left.left, c.loop-left.invariant.0.within, name_lengths_length) }
@@ -19,12 +13,6 @@ returns-then-next-ge-ELEMENTS c = names_past c.loop-left.invariant.0 c.if-next-g
 
 pub overflow_add-sum : goal.overflow_add-sum
 overflow_add-sum c = name_fits c.loop-left.invariant.0 c.loop-left-test.true c.loop-left.invariant.1 c.if-next-ge-ELEMENTS.false _ (c.from-sum.ensures ∙ c.length_in.ensures)
-
-pub overflow_shr-left : goal.overflow_shr-left
-overflow_shr-left c = omega (arith, c.if-next-ge-ELEMENTS.false)
-
-pub loop-left-smaller : goal.loop-left-smaller
-loop-left-smaller c = omega (arith, c.if-next-ge-ELEMENTS.false)
 
 pub loop-left-preserved : goal.loop-left-preserved
 loop-left-preserved c =

@@ -1,6 +1,6 @@
 -- `element::set::value_bytes` meets its contract.
 use Prim.Native.Nat.{ℕ, ◌+◌, ◌-◌, ◌/◌, ◌^◌}
-use lib.ListN.{length, take, drop, length-take, length-drop}
+use lib.ListN.{length, take, drop, length-drop}
 use lib.Seq.{take_all}
 use mathlib.Core.List.{List}
 use mathlib.Core.Path.{◌≡◌}
@@ -15,14 +15,11 @@ parts : (lengths : List ℕ) (set : ℕ)
 parts lengths set =
     rw (take_all (length lengths - 22) (drop 22 lengths) (omega (arith, length-drop 22 lengths))) (bytes_parts 22 lengths set)
 
-pub slice_bounds-part_bytes-end : goal.slice_bounds-part_bytes-end
-slice_bounds-part_bytes-end c = simp length-take (omega arith)
-
 pub overflow_add-result : goal.overflow_add-result
 overflow_add-result c =
     let start = c in
     rw (c.part_bytes-3.ensures, c.part_bytes-2.ensures, parts start.args.lengths.now start.args.set)
-    (record { fits = values_fit start.args.lengths.now start.args.set (λ e. omega (arith, c.shared_slice_known-1.given e)) start.ranges.set.fits })
+    (record { fits = values_fit start.args.lengths.now start.args.set (λ e. omega (arith, c.type_inv.lengths e)) start.ranges.set.fits })
 
 pub returns : goal.returns
 returns c =
