@@ -11,12 +11,11 @@ use native.Mathlib.Decide.{dec_le}
 use native.Mathlib.Nat.{zero-add}
 use mir.Syntax.{w64}
 use mir.Val.{Fits}
-use Rattle.cuts.specs.Runs.{runs_of}
 use Rattle.cuts.specs.Block.{most_rows, most_bytes, Row, row, union, value_bytes, row_count, bytes_of}
 use Rattle.cuts.specs.Look.{block_limit, head_of, end_cost, Looked, IsFull, LookedNear, Small}
 use Rattle.cuts.specs.declared.block.Head.{Head}
 use Rattle.cuts.specs.declared.ends.Look.{Look}
-use Rattle.cuts.proofs.SumLaws.{runs_length, no_row, runs_at, union_take, values_take, count_take, values_take_le, count_take_le, block_take}
+use Rattle.cuts.proofs.SumLaws.{no_row, union_take, values_take, count_take, values_take_le, count_take_le, block_take}
 use Rattle.cuts.proofs.LeastLaws.{least_one, least_take, least_leave}
 
 -- ---- one step, over any runs
@@ -121,30 +120,22 @@ head_own h columns e = e ∙ ap head_of (sym (ap (λ (x : Head). x.columns) e))
 
 -- ---- the same as the code has it: w and n are the size and the rows that were read, h the head, c the bytes of the block
 
-module _ (sets sizes counts after : List ℕ) (small : Small sets sizes counts after) where
-  abbrev runs : List Row
-  runs = runs_of sets sizes counts
+module _ (runs : List Row) (after : List ℕ) (small : Small runs after) where
+  pub start_small : (w : ℕ) → w ≡ (get_or runs 0 no_row).size → w ≤ most_bytes
+  start_small w e = omega (arith, e, (run_le runs 0).0, small.sum)
 
-  pub run_at : (i : ℕ) → get_or runs i no_row ≡ row (get_or sets i 0) (get_or sizes i 0) (get_or counts i 0)
-  run_at i = runs_at sets sizes counts i small.same small.also
-
-  pub runs_long : length runs ≡ length sets
-  runs_long = runs_length sets sizes counts small.same small.also
-
-  pub start_small : (w : ℕ) → w ≡ get_or sizes 0 0 → w ≤ most_bytes
-  start_small w e = omega (arith, ap (λ (x : Row). x.size) (run_at 0), (run_le runs 0).0, small.sum)
-
-  pub start_few : (n : ℕ) → n ≡ get_or counts 0 0 → n ≤ most_rows
-  start_few n e = omega (arith, ap (λ (x : Row). x.count) (run_at 0), (run_le runs 0).1, small.all)
+  pub start_few : (n : ℕ) → n ≡ (get_or runs 0 no_row).count → n ≤ most_rows
+  start_few n e = omega (arith, e, (run_le runs 0).1, small.all)
 
   pub cost_fits : (c i : ℕ) → c < block_limit → Fits w64 (c + get_or after i 0)
   cost_fits c i h = record { fits = omega (arith, small.low i) }
 
-  pub start_looked : (w n c : ℕ) (h : Head) → h ≡ head_of (get_or sets 0 0) → w ≡ get_or sizes 0 0 → n ≡ get_or counts 0 0 → (c ≡ bytes_of h.columns w n) × (c < block_limit)
+  pub start_looked : (w n c : ℕ) (h : Head) → h ≡ head_of (get_or runs 0 no_row).set → w ≡ (get_or runs 0 no_row).size → n ≡ (get_or runs 0 no_row).count
+      → (c ≡ bytes_of h.columns w n) × (c < block_limit)
       → Looked runs after (record { head = h; values = w; rows = n; from = 0; end = 0; best = 0; cost = c + get_or after 0 0 })
   start_looked w n c h a e g q =
-      look_start runs after (row (get_or sets 0 0) w n) h (c + get_or after 0 0) (omega (arith, runs_long, small.some))
-      (run_at 0 ∙ ap₂ (row (get_or sets 0 0)) (sym e) (sym g)) a (ap (λ (x : ℕ). x + get_or after 0 0) q.0) (omega (arith, q.1))
+      look_start runs after (row (get_or runs 0 no_row).set w n) h (c + get_or after 0 0) small.some
+      (ap₂ (row (get_or runs 0 no_row).set) (sym e) (sym g)) a (ap (λ (x : ℕ). x + get_or after 0 0) q.0) (omega (arith, q.1))
 
   module _ (l : Look) (s : Looked runs after l) where
     -- The sums stay within the limits.
@@ -157,41 +148,38 @@ module _ (sets sizes counts after : List ℕ) (small : Small sets sizes counts a
     pub head_known : l.head ≡ head_of l.head.columns
     head_known = head_own l.head _ s.head
 
-    pub end_inside : l.end < length sets
-    end_inside = omega (arith, s.inside, runs_long)
-
     pub end_after : l.end < length after
-    end_after = omega (arith, end_inside, small.rest)
+    end_after = omega (arith, s.inside, small.rest)
 
     pub anew_looked : (c : ℕ) → (c ≡ bytes_of l.head.columns l.values l.rows) × (c < block_limit)
         → Looked runs after (record { head = l.head; values = l.values; rows = l.rows; from = l.end; end = l.end; best = l.end; cost = c + get_or after l.end 0 })
     anew_looked c q = look_anew runs after l (c + get_or after l.end 0) s (ap (λ (x : ℕ). x + get_or after l.end 0) q.0) (omega (arith, q.1))
 
-    module _ (k : l.end + 1 < length sets) where
+    module _ (k : l.end + 1 < length runs) where
       run_on : suc l.end < length runs
-      run_on = omega (arith, runs_long)
+      run_on = omega arith
 
-      pub step_small : (w : ℕ) → w ≡ get_or sizes (l.end + 1) 0 → l.values + w ≤ most_bytes
+      pub step_small : (w : ℕ) → w ≡ (get_or runs (l.end + 1) no_row).size → l.values + w ≤ most_bytes
       step_small w e =
-          omega (arith, s.values, values_take runs (suc l.end) run_on, values_take_le runs (suc (suc l.end)), ap (λ (x : Row). x.size) (run_at (suc l.end)), ap (λ (x : ℕ). get_or sizes x 0) (add-one l.end), small.sum)
+          omega (arith, s.values, e, values_take runs (suc l.end) run_on, values_take_le runs (suc (suc l.end)), ap (λ (x : ℕ). (get_or runs x no_row).size) (add-one l.end), small.sum)
 
-      pub values_fit : (w : ℕ) → w ≡ get_or sizes (l.end + 1) 0 → Fits w64 (l.values + w)
+      pub values_fit : (w : ℕ) → w ≡ (get_or runs (l.end + 1) no_row).size → Fits w64 (l.values + w)
       values_fit w e = record { fits = omega (arith, step_small w e) }
 
-      pub step_few : (n : ℕ) → n ≡ get_or counts (l.end + 1) 0 → l.rows + n ≤ most_rows
+      pub step_few : (n : ℕ) → n ≡ (get_or runs (l.end + 1) no_row).count → l.rows + n ≤ most_rows
       step_few n e =
-          omega (arith, s.rows, count_take runs (suc l.end) run_on, count_take_le runs (suc (suc l.end)), ap (λ (x : Row). x.count) (run_at (suc l.end)), ap (λ (x : ℕ). get_or counts x 0) (add-one l.end), small.all)
+          omega (arith, s.rows, e, count_take runs (suc l.end) run_on, count_take_le runs (suc (suc l.end)), ap (λ (x : ℕ). (get_or runs x no_row).count) (add-one l.end), small.all)
 
-      pub rows_fit : (n : ℕ) → n ≡ get_or counts (l.end + 1) 0 → Fits w64 (l.rows + n)
+      pub rows_fit : (n : ℕ) → n ≡ (get_or runs (l.end + 1) no_row).count → Fits w64 (l.rows + n)
       rows_fit n e = record { fits = omega (arith, step_few n e) }
 
       pub step_after : l.end + 1 < length after
       step_after = omega (arith, small.rest)
 
-      module _ (w n c : ℕ) (h : Head) (e : w ≡ get_or sizes (l.end + 1) 0) (g : n ≡ get_or counts (l.end + 1) 0)
-          (a : h ≡ head_of (bit_or l.head.columns (get_or sets (l.end + 1) 0))) (q : (c ≡ bytes_of h.columns (l.values + w) (l.rows + n)) × (c < block_limit)) where
-        run_read : get_or runs (l.end + 1) no_row ≡ row (get_or sets (l.end + 1) 0) w n
-        run_read = run_at (l.end + 1) ∙ ap₂ (row (get_or sets (l.end + 1) 0)) (sym e) (sym g)
+      module _ (w n c : ℕ) (h : Head) (e : w ≡ (get_or runs (l.end + 1) no_row).size) (g : n ≡ (get_or runs (l.end + 1) no_row).count)
+          (a : h ≡ head_of (bit_or l.head.columns (get_or runs (l.end + 1) no_row).set)) (q : (c ≡ bytes_of h.columns (l.values + w) (l.rows + n)) × (c < block_limit)) where
+        run_read : get_or runs (l.end + 1) no_row ≡ row (get_or runs (l.end + 1) no_row).set w n
+        run_read = ap₂ (row (get_or runs (l.end + 1) no_row).set) (sym e) (sym g)
 
         pub step_take : c + get_or after (l.end + 1) 0 ≤ l.cost
             → Looked runs after (record {
@@ -204,7 +192,7 @@ module _ (sets sizes counts after : List ℕ) (small : Small sets sizes counts a
               cost = c + get_or after (l.end + 1) 0;
             })
         step_take =
-            take_step runs after l (row (get_or sets (l.end + 1) 0) w n) h (c + get_or after (l.end + 1) 0) s (omega (arith, runs_long)) run_read a
+            take_step runs after l (row (get_or runs (l.end + 1) no_row).set w n) h (c + get_or after (l.end + 1) 0) s k run_read a
             (ap (λ (x : ℕ). x + get_or after (l.end + 1) 0) q.0)
 
         pub step_leave : l.cost < c + get_or after (l.end + 1) 0
@@ -218,7 +206,7 @@ module _ (sets sizes counts after : List ℕ) (small : Small sets sizes counts a
               cost = l.cost;
             })
         step_leave =
-            leave_step runs after l (row (get_or sets (l.end + 1) 0) w n) h (c + get_or after (l.end + 1) 0) s (omega (arith, runs_long)) run_read a
+            leave_step runs after l (row (get_or runs (l.end + 1) no_row).set w n) h (c + get_or after (l.end + 1) 0) s k run_read a
             (ap (λ (x : ℕ). x + get_or after (l.end + 1) 0) q.0)
 
 -- ---- up to the first end with which the block has all columns
@@ -274,6 +262,6 @@ module _ (runs : List Row) (after : List ℕ) (columns : ℕ) (all : columns ≡
 
 pub ruleset first-needs = (head_own, start_small, start_few, cost_fits, start_looked)
 
-pub ruleset anew-needs = (head_known, values_small, rows_few, end_inside, end_after, cost_fits, anew_looked)
+pub ruleset anew-needs = (head_known, values_small, rows_few, end_after, cost_fits, anew_looked)
 
 pub ruleset further-needs = (head_own, head_known, step_small, values_fit, step_few, rows_fit, step_after, cost_fits, step_take, step_leave)

@@ -1,5 +1,5 @@
 -- Steps of pressing rows into runs.
-use mathlib.Core.Path.{◌≡◌, refl, sym, ap, ap₂, ◌∙◌, subst}
+use mathlib.Core.Path.{◌≡◌, refl, sym, ap, ap₂, ◌∙◌}
 use mathlib.Core.Bool.{Bool, true, false, not, cond}
 use mathlib.Core.List.{List, [], ◌∷◌}
 use Prim.Native.Nat.{ℕ, ◌≤◌, ◌<◌, zero, suc, ◌+◌, ◌-◌}
@@ -9,11 +9,12 @@ use lib.Dec.{eqb}
 use native.Mathlib.Numerals.{add-one}
 use lib.Seq.{drop-cons}
 use native.Mathlib.Nat.{add_comm}
-use mir.Val.{bool_byte}
+use mir.Syntax.{w16, w32}
+use mir.Val.{Fits, bool_byte}
 use borrow.Author.Tests.{eq-eqb, ne_eqb}
-use Rattle.cuts.specs.Runs.{runs_of, onto_run, onto, press, change, changes, runs_in, Room, Pressed, Joins}
+use Rattle.cuts.specs.Runs.{onto_run, onto, press, change, changes, runs_in, Room, Pressed}
 use Rattle.cuts.specs.Block.{most_rows, most_bytes, Row, row, rows_of, value_bytes, row_count}
-use Rattle.cuts.proofs.SumLaws.{drop_set, one_less_lt, runs_length, values_drop_le, count_drop_le}
+use Rattle.cuts.proofs.SumLaws.{no_row, drop_set, values_drop_le, count_drop_le}
 
 -- The rows from i on are the row i and those after it.
 rows_ahead : (sets sizes : List ℕ) (i : ℕ) → length sizes ≡ length sets → i < length sets → drop i (rows_of sets sizes) ≡ row (get_or sets i 0) (get_or sizes i 0) 1 ∷ drop (suc i) (rows_of sets sizes)
@@ -101,14 +102,14 @@ press_count (m ∷ n ∷ sets) (s ∷ z ∷ sizes) e =
     onto_length (row m s 1) (onto (row n z 1) (press (rows_of sets sizes))) (omega (arith, rest))
     ∙ ap₂ (λ (h l : ℕ). cond (eqb h m) 0 1 + l) first rest ∙ (omega arith)
 
-module _ (sets sizes runSets runSizes runCounts : List ℕ) (i j : ℕ) (p : Pressed sets sizes (i + 1) runSets runSizes runCounts j) (h : i < length sets) where
+module _ (sets sizes : List ℕ) (runs : List Row) (i j : ℕ) (p : Pressed sets sizes (i + 1) runs j) (h : i < length sets) where
   -- The row i.
-  x : Row
+  abbrev pub x : Row
   x = row (get_or sets i 0) (get_or sizes i 0) 1
 
   -- The runs from i on, and their sums.
-  next_is : press (drop i (rows_of sets sizes)) ≡ onto x (runs_of (drop j runSets) (drop j runSizes) (drop j runCounts))
-  unfolding press x
+  next_is : press (drop i (rows_of sets sizes)) ≡ onto x (drop j runs)
+  unfolding press
   next_is =
       ap press (rows_ahead sets sizes i p.room.same h)
       ∙ ap (onto x) (ap (λ (n : ℕ). press (drop n (rows_of sets sizes))) (sym (add-one i)) ∙ sym p.are)
@@ -119,153 +120,84 @@ module _ (sets sizes runSets runSizes runCounts : List ℕ) (i j : ℕ) (p : Pre
     omega (arith, (press_both (drop i (rows_of sets sizes))).1, count_drop_le (rows_of sets sizes) i, count_rows sets sizes, p.room.few),
   )
 
-  module _ (g : j < length runSets) where
-    -- The runs after the run j.
-    rest : List Row
-    rest = runs_of (drop (suc j) runSets) (drop (suc j) runSizes) (drop (suc j) runCounts)
+  -- As many runs as fit are kept.
+  room_kept : (k : ℕ) (y : Row) → Room sets sizes (set runs k y)
+  room_kept k y = record { same = p.room.same; few = p.room.few; sum = p.room.sum; fits = omega (arith, length-set runs k y, p.room.fits) }
 
-    runs_ahead : runs_of (drop j runSets) (drop j runSizes) (drop j runCounts) ≡ row (get_or runSets j 0) (get_or runSizes j 0) (get_or runCounts j 0) ∷ rest
-    unfolding rest
-    runs_ahead =
-        let a : j < length runSizes = omega (arith, p.room.sizes_length) in
-        let b : j < length runCounts = omega (arith, p.room.counts_length) in
-        rw (drop-cons runSets j 0, drop-cons runSizes j 0, drop-cons runCounts j 0)
+  module _ (g : j < length runs) where
+    runs_ahead : drop j runs ≡ get_or runs j no_row ∷ drop (suc j) runs
+    runs_ahead = drop-cons runs j no_row g
 
     -- The run j is within the limits with the row i in it too.
-    pub join_ready : Joins runSizes runCounts j (get_or sizes i 0)
-    unfolding value_bytes row_count x
-    join_ready =
-        let both = onto_both x (runs_of (drop j runSets) (drop j runSizes) (drop j runCounts)) in
+    join_low : ((get_or runs j no_row).size + get_or sizes i 0 ≤ most_bytes) × ((get_or runs j no_row).count + 1 ≤ most_rows)
+    unfolding value_bytes row_count
+    join_low =
+        let both = onto_both x (drop j runs) in (
+          omega (arith, next_low.0, ap value_bytes next_is, both.0, ap value_bytes runs_ahead),
+          omega (arith, next_low.1, ap row_count next_is, both.1, ap row_count runs_ahead),
+        )
+
+    pub size_fits : Fits w32 ((get_or runs j no_row).size + get_or sizes i 0)
+    size_fits = record { fits = omega (arith, join_low.0) }
+
+    pub count_fits : Fits w16 ((get_or runs j no_row).count + 1)
+    count_fits = record { fits = omega (arith, join_low.1) }
+
+    -- The row i has the set of the run j, and joins it.
+    pub join_done : (y : Row) → (get_or runs j no_row).set ≡ get_or sets i 0 → y ≡ row (get_or runs j no_row).set ((get_or runs j no_row).size + get_or sizes i 0) ((get_or runs j no_row).count + 1)
+        → Pressed sets sizes i (set runs j y) j
+    join_done y e q =
+        let run = get_or runs j no_row in
         record {
-          in_sizes = omega (arith, p.room.sizes_length);
-          in_counts = omega (arith, p.room.counts_length);
-          fits = omega (arith, next_low.0, ap value_bytes next_is, both.0, ap value_bytes runs_ahead);
-          more = omega (arith, next_low.1, ap row_count next_is, both.1, ap row_count runs_ahead);
+          room = room_kept j y;
+          within = omega (arith, length-set runs j y);
+          are =
+              drop_set runs j y g
+              ∙ ap (λ (t : Row). t ∷ drop (suc j) runs) (q ∙ (λ t. row (e t) (add_comm run.size (get_or sizes i 0) t) (add_comm run.count 1 t)))
+              ∙ sym (next_is ∙ ap (onto x) runs_ahead ∙ ap (λ (b : Bool). onto_run b x run (drop (suc j) runs)) (eq-eqb run.set (get_or sets i 0) e));
         }
 
-    module _ (e : get_or runSets j 0 ≡ get_or sets i 0) where
-      -- The row i has the set of the run j, and joins it.
-      join_is : press (drop i (rows_of sets sizes)) ≡ row (get_or sets i 0) (get_or sizes i 0 + get_or runSizes j 0) (1 + get_or runCounts j 0) ∷ rest
-      unfolding x
-      join_is =
-          next_is ∙ ap (onto x) runs_ahead
-          ∙ ap (λ (b : Bool). onto_run b x (row (get_or runSets j 0) (get_or runSizes j 0) (get_or runCounts j 0)) rest) (eq-eqb (get_or runSets j 0) (get_or sets i 0) e)
-
-      pub join_done : (runSizes' runCounts' : List ℕ) → (runSizes' ≡ set runSizes j (get_or runSizes j 0 + get_or sizes i 0)) × (runCounts' ≡ set runCounts j (get_or runCounts j 0 + 1)) → Pressed sets sizes i runSets runSizes' runCounts' j
-      unfolding rest
-      join_done runSizes' runCounts' d =
-          let a : j < length runSizes = omega (arith, p.room.sizes_length) in
-          let b : j < length runCounts = omega (arith, p.room.counts_length) in
-          record {
-            room = record {
-              same = p.room.same;
-              few = p.room.few;
-              sum = p.room.sum;
-              sizes_length = ap length d.0 ∙ length-set runSizes j (get_or runSizes j 0 + get_or sizes i 0) ∙ p.room.sizes_length;
-              counts_length = ap length d.1 ∙ length-set runCounts j (get_or runCounts j 0 + 1) ∙ p.room.counts_length;
-              fits = p.room.fits;
-            };
-            within = p.within;
-            are =
-                rw (d.0, d.1, drop_set runSizes j (get_or runSizes j 0 + get_or sizes i 0) a, drop_set runCounts j (get_or runCounts j 0 + 1) b, drop-cons runSets j 0 g, join_is)
-                (λ t. row (e t) (add_comm (get_or runSizes j 0) (get_or sizes i 0) t) (add_comm (get_or runCounts j 0) 1 t) ∷ rest);
-          }
-
-  -- There is room for one run more where the row i is a run of its own.
-  some_left : press (drop i (rows_of sets sizes)) ≡ x ∷ runs_of (drop j runSets) (drop j runSizes) (drop j runCounts) → 0 < j
-  some_left q =
-      omega (
-        arith,
-        ap length q,
-        press_drop (rows_of sets sizes) i,
-        p.room.fits,
-        length-drop j runSets,
-        length-drop j runSizes,
-        length-drop j runCounts,
-        p.within,
-        p.room.sizes_length,
-        p.room.counts_length,
-        runs_length (drop j runSets) (drop j runSizes) (drop j runCounts) (omega (arith, length-drop j runSets, length-drop j runSizes, p.room.sizes_length)) (omega (arith, length-drop j runSets, length-drop j runCounts, p.room.counts_length)),
-      )
-
-  -- The row i is put there as a run of its own.
-  begin_done : (k : ℕ) → suc k ≡ j → press (drop i (rows_of sets sizes)) ≡ x ∷ runs_of (drop j runSets) (drop j runSizes) (drop j runCounts)
-      → Pressed sets sizes i (set runSets k (get_or sets i 0)) (set runSizes k (get_or sizes i 0)) (set runCounts k 1) k
-  unfolding x
-  begin_done k e q =
-      let a : k < length runSets = omega (arith, p.within) in
-      let b : k < length runSizes = omega (arith, p.room.sizes_length) in
-      let d : k < length runCounts = omega (arith, p.room.counts_length) in
-      record {
-        room = record {
-          same = p.room.same;
-          few = p.room.few;
-          sum = p.room.sum;
-          sizes_length = omega (arith, length-set runSizes k (get_or sizes i 0), length-set runSets k (get_or sets i 0), p.room.sizes_length);
-          counts_length = omega (arith, length-set runCounts k 1, length-set runSets k (get_or sets i 0), p.room.counts_length);
-          fits = omega (arith, length-set runSets k (get_or sets i 0), p.room.fits);
-        };
-        within = omega (arith, length-set runSets k (get_or sets i 0));
-        are =
-            rw (drop_set runSets k (get_or sets i 0) a, drop_set runSizes k (get_or sizes i 0) b, drop_set runCounts k 1 d)
-            (sym (q ∙ ap (λ (n : ℕ). x ∷ runs_of (drop n runSets) (drop n runSizes) (drop n runCounts)) (sym e)));
-      }
-
-  -- So it is where its set is another than that of the run j.
-  other_run : (g : j < length runSets) → (get_or runSets j 0 ≡ get_or sets i 0 → ⊥) → press (drop i (rows_of sets sizes)) ≡ x ∷ runs_of (drop j runSets) (drop j runSizes) (drop j runCounts)
-  unfolding x
-  other_run g n =
-      next_is ∙ ap (onto x) (runs_ahead g)
-      ∙ ap (λ (b : Bool). onto_run b x (row (get_or runSets j 0) (get_or runSizes j 0) (get_or runCounts j 0)) (rest g)) (ne_eqb (get_or runSets j 0) (get_or sets i 0) n)
-      ∙ ap (λ (t : List Row). x ∷ t) (sym (runs_ahead g))
-
-  pub other_left : j < length runSets → (get_or runSets j 0 ≡ get_or sets i 0 → ⊥) → 0 < j
-  other_left g n = some_left (other_run g n)
+    -- It is a run of its own where its set is another than that of the run j.
+    pub other_run : ((get_or runs j no_row).set ≡ get_or sets i 0 → ⊥) → press (drop i (rows_of sets sizes)) ≡ x ∷ drop j runs
+    other_run n =
+        next_is ∙ ap (onto x) runs_ahead
+        ∙ ap (λ (b : Bool). onto_run b x (get_or runs j no_row) (drop (suc j) runs)) (ne_eqb (get_or runs j no_row).set (get_or sets i 0) n)
+        ∙ ap (λ (t : List Row). x ∷ t) (sym runs_ahead)
 
   -- So it is where there is no run yet.
-  last_run : length runSets ≤ j → press (drop i (rows_of sets sizes)) ≡ x ∷ runs_of (drop j runSets) (drop j runSizes) (drop j runCounts)
+  pub last_run : length runs ≤ j → press (drop i (rows_of sets sizes)) ≡ x ∷ drop j runs
   last_run g =
-      next_is ∙ ap (λ (t : List ℕ). onto x (runs_of t (drop j runSizes) (drop j runCounts))) (drop_of_length-le runSets {i = j} g)
-      ∙ ap (λ (t : List ℕ). x ∷ runs_of t (drop j runSizes) (drop j runCounts)) (sym (drop_of_length-le runSets {i = j} g))
+      next_is ∙ ap (onto x) (drop_of_length-le runs {i = j} g)
+      ∙ ap (λ (t : List Row). x ∷ t) (sym (drop_of_length-le runs {i = j} g))
 
-  pub last_left : length runSets ≤ j → 0 < j
-  last_left g = some_left (last_run g)
+  -- The row i is a run of its own: there is room for it, and it is put before the run j.
+  module _ (alone : press (drop i (rows_of sets sizes)) ≡ x ∷ drop j runs) where
+    pub some_left : 0 < j
+    some_left = omega (arith, ap length alone, press_drop (rows_of sets sizes) i, p.room.fits, length-drop j runs, p.within)
 
-  module _ (r : ℕ) (runSets' runSizes' runCounts' : List ℕ)
-      (d : (r ≡ j - 1) × (runSets' ≡ set runSets (j - 1) (get_or sets i 0)) × (runSizes' ≡ set runSizes (j - 1) (get_or sizes i 0)) × (runCounts' ≡ set runCounts (j - 1) 1)) where
-    begin_put : press (drop i (rows_of sets sizes)) ≡ x ∷ runs_of (drop j runSets) (drop j runSizes) (drop j runCounts) → Pressed sets sizes i runSets' runSizes' runCounts' r
-    begin_put q = rw (d.0, d.1, d.2, d.3) (begin_done (j - 1) (omega (arith, some_left q)) q)
-
-    pub begin_other : j < length runSets → (get_or runSets j 0 ≡ get_or sets i 0 → ⊥) → Pressed sets sizes i runSets' runSizes' runCounts' r
-    begin_other g n = begin_put (other_run g n)
-
-    pub begin_last : length runSets ≤ j → Pressed sets sizes i runSets' runSizes' runCounts' r
-    begin_last g = begin_put (last_run g)
-
-pub ruleset press-needs = (join_ready, join_done, other_left, last_left, begin_other, begin_last)
+    pub begin_done : Pressed sets sizes i (set runs (j - 1) x) (j - 1)
+    begin_done =
+        let k : j - 1 < length runs = omega (arith, some_left, p.within) in
+        let next : suc (j - 1) ≡ j = omega (arith, some_left) in
+        record {
+          room = room_kept (j - 1) x;
+          within = omega (arith, length-set runs (j - 1) x);
+          are = drop_set runs (j - 1) x k ∙ ap (λ (n : ℕ). x ∷ drop n runs) next ∙ sym alone;
+        }
 
 -- Nothing is pressed yet.
-pub press_start : (sets sizes runSets runSizes runCounts : List ℕ) → Room sets sizes runSets runSizes runCounts → Pressed sets sizes (length sets) runSets runSizes runCounts (length runSets)
+pub press_start : (sets sizes : List ℕ) (runs : List Row) → Room sets sizes runs → Pressed sets sizes (length sets) runs (length runs)
 unfolding press
-press_start sets sizes runSets runSizes runCounts room = record {
+press_start sets sizes runs room = record {
   room = room;
   within = omega arith;
-  are = ap (λ (t : List ℕ). runs_of t (drop (length runSets) runSizes) (drop (length runSets) runCounts)) (drop_of_length-le runSets {i = length runSets} (omega arith)) ∙ sym (ap press (none sets sizes));
+  are = drop_of_length-le runs {i = length runs} (omega arith) ∙ sym (ap press (none sets sizes));
 }
   where
     none : (ps qs : List ℕ) → drop (length ps) (rows_of ps qs) ≡ []
     none [] qs = refl
     none (a ∷ ps) [] = refl
     none (a ∷ ps) (b ∷ qs) = none ps qs
-
--- The index goes down by one, to 0.
-pub press_back : (sets sizes runSets runSizes runCounts : List ℕ) (i j : ℕ) → 0 < i → Pressed sets sizes i runSets runSizes runCounts j → Pressed sets sizes (i - 1 + 1) runSets runSizes runCounts j
-press_back sets sizes runSets runSizes runCounts i j h p = subst (λ (n : ℕ). Pressed sets sizes n runSets runSizes runCounts j) (omega arith) p
-
-pub press_end : (sets sizes runSets runSizes runCounts : List ℕ) (i j : ℕ) → i ≤ 0 → Pressed sets sizes i runSets runSizes runCounts j → Pressed sets sizes 0 runSets runSizes runCounts j
-press_end sets sizes runSets runSizes runCounts i j h p = subst (λ (n : ℕ). Pressed sets sizes n runSets runSizes runCounts j) (omega arith) p
-
-pub ruleset press-all-needs = (press_start, press_back, press_end, one_less_lt)
 
 -- ---- how many runs there are
 

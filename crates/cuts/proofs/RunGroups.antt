@@ -10,7 +10,7 @@ use lib.Bits.{bit_or, or_comm}
 use borrow.Author.Tests.{eqb-true}
 use native.Mathlib.Nat.{add-zero}
 use Rattle.cuts.specs.Runs.{onto_run, onto, press, in_rows}
-use Rattle.cuts.specs.Block.{Row, row, rows_of, total, union, value_bytes, row_count, bytes_of, block_bytes}
+use Rattle.cuts.specs.Block.{Row, row, rows_of, union, value_bytes, row_count, bytes_of, block_bytes}
 use Rattle.cuts.proofs.UnionLaws.{or_twice}
 use Rattle.cuts.proofs.Trades.{SameSet, union_or}
 use Rattle.cuts.proofs.GroupCuts.{flat, group_rows, Chain, Chains}
@@ -139,31 +139,20 @@ drop_one zero gs o = o
 drop_one (suc k) [] o = o
 drop_one (suc k) (g ∷ gs) o = drop_one k gs (one_count g (flat gs) o).1
 
--- How many rows each group has.
-abbrev group_counts : List (List Row) → List ℕ
-group_counts gs = map (λ (g : List Row). row_count g) gs
+count_flat : (k : ℕ) (gs : List (List Row)) → AllOne (flat gs) → row_count (take k (map summary gs)) ≡ length (flat (take k gs))
+unfolding row_count
+count_flat zero gs o = refl
+count_flat (suc k) [] o = refl
+count_flat (suc k) (g ∷ gs) o =
+    omega (arith, (one_count g (flat gs) o).0, count_flat k gs (one_count g (flat gs) o).1, length-append g (flat (take k gs)))
 
-total_flat : (k : ℕ) (gs : List (List Row)) → AllOne (flat gs) → total (take k (group_counts gs)) ≡ length (flat (take k gs))
-unfolding total
-total_flat zero gs o = refl
-total_flat (suc k) [] o = refl
-total_flat (suc k) (g ∷ gs) o =
-    omega (arith, (one_count g (flat gs) o).0, total_flat k gs (one_count g (flat gs) o).1, length-append g (flat (take k gs)))
+drop_summary : (k : ℕ) (gs : List (List Row)) → drop k (map summary gs) ≡ map summary (drop k gs)
+drop_summary zero gs = refl
+drop_summary (suc k) [] = refl
+drop_summary (suc k) (g ∷ gs) = drop_summary k gs
 
-drop_counts : (k : ℕ) (gs : List (List Row)) → drop k (group_counts gs) ≡ group_counts (drop k gs)
-drop_counts zero gs = refl
-drop_counts (suc k) [] = refl
-drop_counts (suc k) (g ∷ gs) = drop_counts k gs
-
-in_rows_is : (js : List ℕ) (gs : List (List Row)) → AllOne (flat gs) → in_rows js (group_counts gs) ≡ group_rows js gs
-in_rows_is [] gs o = refl
-in_rows_is (j ∷ js) gs o =
-    ap₂ ◌∷◌ (total_flat j gs o) (ap (in_rows js) (drop_counts j gs) ∙ in_rows_is js (drop j gs) (drop_one j gs o))
-
-counts_are : (gs : List (List Row)) → map (λ (r : Row). r.count) (map summary gs) ≡ group_counts gs
-counts_are [] = refl
-counts_are (g ∷ gs) = ap (λ (l : List ℕ). row_count g ∷ l) (counts_are gs)
-
--- A cut list of the groups in rows, from the counts of the runs.
-pub in_rows_groups : (js : List ℕ) (gs : List (List Row)) → AllOne (flat gs) → in_rows js (map (λ (r : Row). r.count) (map summary gs)) ≡ group_rows js gs
-in_rows_groups js gs o = ap (in_rows js) (counts_are gs) ∙ in_rows_is js gs o
+-- A cut list of the groups in rows.
+pub in_rows_groups : (js : List ℕ) (gs : List (List Row)) → AllOne (flat gs) → in_rows js (map summary gs) ≡ group_rows js gs
+in_rows_groups [] gs o = refl
+in_rows_groups (j ∷ js) gs o =
+    ap₂ ◌∷◌ (count_flat j gs o) (ap (in_rows js) (drop_summary j gs) ∙ in_rows_groups js (drop j gs) (drop_one j gs o))

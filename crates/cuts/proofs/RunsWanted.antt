@@ -1,10 +1,10 @@
 -- The chosen cutting of the runs, in rows, is the wanted cutting of the rows.
 use mathlib.Core.Path.{◌≡◌, refl, sym, ap, ap₂, ◌∙◌, subst₂}
 use mathlib.Core.List.{List, [], ◌∷◌, ◌++◌, map}
-use Prim.Native.Nat.{ℕ, ◌+◌, ◌≤◌, ◌<◌, zero, suc, ◌-◌}
+use Prim.Native.Nat.{ℕ, ◌+◌, ◌≤◌, ◌<◌, zero, suc}
 use native.Mathlib.Omega.{arith}
 use lib.ListN.{length, take, length-append, length-map, length-drop}
-use Rattle.cuts.specs.Runs.{runs_of, press, in_rows, Ready, ReadyRuns, PlannedRuns, Pressed}
+use Rattle.cuts.specs.Runs.{press, in_rows, Ready, ReadyRuns, PlannedRuns, Pressed}
 use Rattle.cuts.specs.Cheapest.{best_cost, chosen}
 use Rattle.cuts.specs.Cuts.{cost, Wanted}
 use Rattle.cuts.specs.Plan.{Planned}
@@ -16,7 +16,7 @@ use Rattle.cuts.proofs.RunGroups.{group, AllOne, rows_one, flat_group, chains_gr
 use Rattle.cuts.proofs.PressLaws.{count_rows, rows_few, press_both, press_short}
 use Rattle.cuts.proofs.CutLaws.{cost_map, wanted_map}
 use Rattle.cuts.proofs.LikeRows.{Trade}
-use Rattle.cuts.proofs.SumLaws.{end, end_is, runs_length}
+use Rattle.cuts.proofs.SumLaws.{end, end_is}
 use Rattle.cuts.proofs.CheapestLaws.{chosen_right, chosen_wanted}
 
 -- ---- for any limit `more` of a block of rows and `moreRuns` of a block of runs that agree
@@ -42,21 +42,21 @@ module _ (more moreRuns : Row → List Row → ℕ) (trade : Trade block_bytes m
         sym (chosen_right block_bytes moreRuns (map summary gs)).1
         ∙ cost_map summary block_bytes (λ b. block_bytes (flat b)) block_flat js gs ∙ cost_rows block_bytes js gs
 
-  module _ (rows : List Row) (o : AllOne rows) (runs : List Row) (counts : List ℕ) (p : runs ≡ press rows) (q : counts ≡ map (λ (r : Row). r.count) runs) where
+  module _ (rows : List Row) (o : AllOne rows) (runs : List Row) (p : runs ≡ press rows) where
     runs_are : runs ≡ map summary (group rows)
     runs_are = p ∙ press_is rows o
 
-    cut_is : in_rows (chosen block_bytes moreRuns runs) counts ≡ group_rows (js (group rows) (chains_group rows o)) (group rows)
+    cut_is : in_rows (chosen block_bytes moreRuns runs) runs ≡ group_rows (js (group rows) (chains_group rows o)) (group rows)
     unfolding js
     cut_is =
-        ap₂ in_rows (ap (chosen block_bytes moreRuns) runs_are) (q ∙ ap (map (λ (r : Row). r.count)) runs_are)
+        ap₂ in_rows (ap (chosen block_bytes moreRuns) runs_are) runs_are
         ∙ in_rows_groups (chosen block_bytes moreRuns (map summary (group rows))) (group rows) (rw (flat_group rows) o)
 
     -- The chosen cutting of the runs in rows is wanted of the rows, and costs what is best for the runs.
-    pub cut_wanted : Wanted block_bytes more rows (in_rows (chosen block_bytes moreRuns runs) counts)
+    pub cut_wanted : Wanted block_bytes more rows (in_rows (chosen block_bytes moreRuns runs) runs)
     cut_wanted = subst₂ (Wanted block_bytes more) (flat_group rows) (sym cut_is) (rows_wanted (group rows) (chains_group rows o))
 
-    pub cut_cost : best_cost block_bytes moreRuns runs ≡ cost block_bytes (in_rows (chosen block_bytes moreRuns runs) counts) rows
+    pub cut_cost : best_cost block_bytes moreRuns runs ≡ cost block_bytes (in_rows (chosen block_bytes moreRuns runs) runs) rows
     cut_cost =
         ap (best_cost block_bytes moreRuns) runs_are ∙ rows_cost (group rows) (chains_group rows o)
         ∙ ap₂ (cost block_bytes) (sym cut_is) (flat_group rows)
@@ -77,31 +77,17 @@ all_limit = record {
 
 -- ---- as the code has it
 
-runs_counts : (sets sizes counts : List ℕ) → length sizes ≡ length sets → length counts ≡ length sets → counts ≡ map (λ (r : Row). r.count) (runs_of sets sizes counts)
-runs_counts [] [] [] e q = refl
-runs_counts [] [] (n ∷ counts) e q = absurd (omega arith)
-runs_counts [] (s ∷ sizes) counts e q = absurd (omega arith)
-runs_counts (m ∷ sets) [] counts e q = absurd (omega arith)
-runs_counts (m ∷ sets) (s ∷ sizes) [] e q = absurd (omega arith)
-runs_counts (m ∷ sets) (s ∷ sizes) (n ∷ counts) e q = ap (λ (l : List ℕ). n ∷ l) (runs_counts sets sizes counts (omega arith) (omega arith))
-
-module _ (sets sizes runSets runSizes runCounts before : List ℕ) (j : ℕ) (ready : Ready sets sizes before) (p : Pressed sets sizes 0 runSets runSizes runCounts j) where
-  ends : runs_of (end runSets j) (end runSizes j) (end runCounts j) ≡ press (rows_of sets sizes)
-  ends = (λ i. runs_of (end_is runSets j i) (end_is runSizes j i) (end_is runCounts j i)) ∙ p.are
-
-  long : (l : List ℕ) → length (end l j) ≡ length l - j
-  long l = ap length (end_is l j) ∙ length-drop j l
+module _ (sets sizes : List ℕ) (runs : List Row) (before : List ℕ) (j : ℕ) (ready : Ready sets sizes before) (p : Pressed sets sizes 0 runs j) where
+  ends : end runs j ≡ press (rows_of sets sizes)
+  ends = end_is runs j ∙ p.are
 
   -- There are no more runs than rows.
-  runs_few : length (end runSets j) ≤ length sets
-  runs_few =
-      omega (arith, ap length ends, press_short (rows_of sets sizes), rows_few sets sizes, runs_length (end runSets j) (end runSizes j) (end runCounts j) (omega (arith, long runSets, long runSizes, p.room.sizes_length)) (omega (arith, long runSets, long runCounts, p.room.counts_length)))
+  runs_few : length (end runs j) ≤ length sets
+  runs_few = omega (arith, ap length ends, press_short (rows_of sets sizes), rows_few sets sizes)
 
   -- The runs are ready where the rows are.
-  pub ready_runs : ReadyRuns (end runSets j) (end runSizes j) (end runCounts j) before
+  pub ready_runs : ReadyRuns (end runs j) before
   ready_runs = record {
-    same = omega (arith, long runSets, long runSizes, p.room.sizes_length);
-    also = omega (arith, long runSets, long runCounts, p.room.counts_length);
     few = omega (arith, runs_few, ready.few);
     sum = omega (arith, ap value_bytes ends, (press_both (rows_of sets sizes)).0, ready.sum);
     all = omega (arith, ap row_count ends, (press_both (rows_of sets sizes)).1, count_rows sets sizes, ready.few);
@@ -109,23 +95,19 @@ module _ (sets sizes runSets runSizes runCounts before : List ℕ) (j : ℕ) (re
   }
 
   -- What is planned for the runs is right for the rows.
-  pub planned : (plan : Plan) (after : List ℕ) → PlannedRuns all_more (runs_of (end runSets j) (end runSizes j) (end runCounts j)) (end runCounts j) plan before after
-      → Planned block_bytes all_more (rows_of sets sizes) plan before after
-  planned plan after d =
-      let q : end runCounts j ≡ map (λ (r : Row). r.count) (runs_of (end runSets j) (end runSizes j) (end runCounts j)) =
-      runs_counts (end runSets j) (end runSizes j) (end runCounts j) ready_runs.same ready_runs.also in
-      record {
-        within = d.within;
-        wanted = rw d.cut (cut_wanted all_more all_more row_trade all_limit (rows_of sets sizes) (rows_one sets sizes) _ _ ends q);
-        bytes = rw d.cut (d.bytes ∙ cut_cost all_more all_more row_trade all_limit (rows_of sets sizes) (rows_one sets sizes) _ _ ends q);
-        kept = d.kept;
-      }
+  pub planned : (plan : Plan) (after : List ℕ) → PlannedRuns all_more (end runs j) plan before after → Planned block_bytes all_more (rows_of sets sizes) plan before after
+  planned plan after d = record {
+    within = d.within;
+    wanted = rw d.cut (cut_wanted all_more all_more row_trade all_limit (rows_of sets sizes) (rows_one sets sizes) _ ends);
+    bytes = rw d.cut (d.bytes ∙ cut_cost all_more all_more row_trade all_limit (rows_of sets sizes) (rows_one sets sizes) _ ends);
+    kept = d.kept;
+  }
 
 -- The lists for the costs and the first blocks are long enough for the runs.
-pub costs_room : (pressed costs : List ℕ) (j n : ℕ) → length pressed ≡ n → length costs ≡ n + 1 → length (end pressed j) < length costs
-costs_room pressed costs j n l e = omega (arith, ap length (end_is pressed j), length-drop j pressed)
+pub costs_room : (runs : List Row) (costs : List ℕ) (j : ℕ) → length costs ≡ length runs + 1 → length (end runs j) < length costs
+costs_room runs costs j e = omega (arith, ap length (end_is runs j), length-drop j runs)
 
-pub firsts_room : (pressed firsts : List ℕ) (j n : ℕ) → length pressed ≡ n → length firsts ≡ n → length (end pressed j) ≤ length firsts
-firsts_room pressed firsts j n l e = omega (arith, ap length (end_is pressed j), length-drop j pressed)
+pub firsts_room : (runs : List Row) (firsts : List ℕ) (j : ℕ) → length firsts ≡ length runs → length (end runs j) ≤ length firsts
+firsts_room runs firsts j e = omega (arith, ap length (end_is runs j), length-drop j runs)
 
-pub ruleset rows-plan-needs = (ready_runs, planned)
+pub ruleset rows-plan-needs = (ready_runs, costs_room, firsts_room, planned)

@@ -1,40 +1,16 @@
 -- Sums over numbers, rows and runs, one step at a time.
-use mathlib.Core.Path.{◌≡◌, refl, ap}
+use mathlib.Core.Path.{◌≡◌, refl, ap, ◌∙◌}
 use mathlib.Core.List.{List, [], ◌∷◌, ◌++◌}
 use Prim.Native.Nat.{ℕ, ◌≤◌, ◌<◌, zero, suc, ◌+◌, ◌-◌}
 use native.Mathlib.Omega.{arith}
 use lib.ListN.{length, take, drop, get_or, length-drop, set, take-append-drop}
 use lib.Bits.{bit_or}
 use lib.Seq.{take-suc, take_all}
-use native.Mathlib.Nat.{le_of_eq}
-use Rattle.std.specs.List.{fold, sum}
-use Rattle.cuts.specs.Runs.{runs_of}
+use native.Mathlib.Nat.{le_of_eq, zero-add}
+use Rattle.std.specs.List.{fold, sum, sum_by}
 use Rattle.cuts.specs.Block.{Row, row, total, union, value_bytes, row_count, bytes_of, block_bytes}
 
 -- ---- numbers
-
--- One number more at the end.
-total_snoc : (l : List ℕ) (n : ℕ) → total (l ++ (n ∷ [])) ≡ total l + n
-unfolding total
-total_snoc [] n = omega arith
-total_snoc (x ∷ l) n = omega (arith, total_snoc l n)
-
--- The first k + 1 numbers together.
-pub total_take : (l : List ℕ) (k : ℕ) → k < length l → total (take (suc k) l) ≡ total (take k l) + get_or l k 0
-total_take l k h = rw (take-suc l k 0, total_snoc)
-
--- A part is no more than the whole.
-pub total_take_le : (l : List ℕ) (k : ℕ) → total (take k l) ≤ total l
-unfolding total
-total_take_le l zero = omega arith
-total_take_le [] (suc k) = omega arith
-total_take_le (x ∷ l) (suc k) = omega (arith, total_take_le l k)
-
-pub total_drop_le : (l : List ℕ) (k : ℕ) → total (drop k l) ≤ total l
-unfolding total
-total_drop_le l zero = omega arith
-total_drop_le [] (suc k) = omega arith
-total_drop_le (x ∷ l) (suc k) = omega (arith, total_drop_le l k)
 
 -- They are the library's sum.
 total_from : (a : ℕ) (l : List ℕ) → fold (λ (a x : ℕ). a + x) a l ≡ a + total l
@@ -45,14 +21,11 @@ total_from a (x ∷ l) = omega (arith, total_from (a + x) l)
 pub total_sum : (l : List ℕ) (n : ℕ) → n ≡ sum l → n ≡ total l
 total_sum l n e = omega (arith, total_from 0 l)
 
-pub sum_total : (l : List ℕ) → sum l ≡ total l
-sum_total l = total_sum l (sum l) refl
-
 -- The end of a list as the code lends it.
-abbrev pub end : List ℕ → ℕ → List ℕ
+abbrev pub end : {A : Type 0} → List A → ℕ → List A
 end l j = take (length l - j) (drop j l)
 
-pub end_is : (l : List ℕ) (j : ℕ) → end l j ≡ drop j l
+pub end_is : {A : Type 0} (l : List A) (j : ℕ) → end l j ≡ drop j l
 end_is l j = take_all (length l - j) (drop j l) (le_of_eq (length-drop j l))
 
 -- What stands from a stored place on.
@@ -61,62 +34,20 @@ drop_set [] j a h = absurd (omega arith)
 drop_set (x ∷ l) zero a h = refl
 drop_set (x ∷ l) (suc j) a h = drop_set l j a (omega arith)
 
--- One less than a number above zero and no more than n.
-pub one_less_le : (i n : ℕ) → i ≤ n → i - 1 ≤ n
-one_less_le i n h = omega arith
-
-pub one_less_lt : (i n : ℕ) → 0 < i → i ≤ n → i - 1 < n
-one_less_lt i n g h = omega arith
-
--- ---- runs
-
-pub runs_length : (sets sizes counts : List ℕ) → length sizes ≡ length sets → length counts ≡ length sets → length (runs_of sets sizes counts) ≡ length sets
-runs_length [] sizes counts e q = refl
-runs_length (m ∷ sets) [] counts e q = absurd (omega arith)
-runs_length (m ∷ sets) (s ∷ sizes) [] e q = absurd (omega arith)
-runs_length (m ∷ sets) (s ∷ sizes) (n ∷ counts) e q = ap suc (runs_length sets sizes counts (omega arith) (omega arith))
+-- ---- rows
 
 -- What stands at a place past the end.
 abbrev pub no_row : Row
 no_row = row 0 0 0
 
-pub runs_at : (sets sizes counts : List ℕ) (i : ℕ) → length sizes ≡ length sets → length counts ≡ length sets
-    → get_or (runs_of sets sizes counts) i no_row ≡ row (get_or sets i 0) (get_or sizes i 0) (get_or counts i 0)
-runs_at [] [] [] i e q = refl
-runs_at [] [] (n ∷ counts) i e q = absurd (omega arith)
-runs_at [] (s ∷ sizes) counts i e q = absurd (omega arith)
-runs_at (m ∷ sets) [] counts i e q = absurd (omega arith)
-runs_at (m ∷ sets) (s ∷ sizes) [] i e q = absurd (omega arith)
-runs_at (m ∷ sets) (s ∷ sizes) (n ∷ counts) zero e q = refl
-runs_at (m ∷ sets) (s ∷ sizes) (n ∷ counts) (suc i) e q = runs_at sets sizes counts i (omega arith) (omega arith)
+-- How many they are is the library's sum.
+count_from : (a : ℕ) (rows : List Row) → fold (λ (n : ℕ) (x : Row). n + x.count) a rows ≡ a + row_count rows
+unfolding row_count
+count_from a [] = omega arith
+count_from a (x ∷ rows) = omega (arith, count_from (a + x.count) rows)
 
-pub runs_total : (sets sizes counts : List ℕ) → length sizes ≡ length sets → length counts ≡ length sets → row_count (runs_of sets sizes counts) ≡ total counts
-unfolding row_count total
-runs_total [] [] [] e q = refl
-runs_total [] [] (n ∷ counts) e q = absurd (omega arith)
-runs_total [] (s ∷ sizes) counts e q = absurd (omega arith)
-runs_total (m ∷ sets) [] counts e q = absurd (omega arith)
-runs_total (m ∷ sets) (s ∷ sizes) [] e q = absurd (omega arith)
-runs_total (m ∷ sets) (s ∷ sizes) (n ∷ counts) e q = omega (arith, runs_total sets sizes counts (omega arith) (omega arith))
-
-runs_no_sizes : (sets counts : List ℕ) → runs_of sets [] counts ≡ []
-runs_no_sizes [] counts = refl
-runs_no_sizes (m ∷ sets) counts = refl
-
-runs_no_counts : (sets sizes : List ℕ) → runs_of sets sizes [] ≡ []
-runs_no_counts [] sizes = refl
-runs_no_counts (m ∷ sets) [] = refl
-runs_no_counts (m ∷ sets) (s ∷ sizes) = refl
-
--- The runs from j on.
-pub runs_drop : (sets sizes counts : List ℕ) (j : ℕ) → runs_of (drop j sets) (drop j sizes) (drop j counts) ≡ drop j (runs_of sets sizes counts)
-runs_drop sets sizes counts zero = refl
-runs_drop [] sizes counts (suc j) = refl
-runs_drop (m ∷ sets) [] counts (suc j) = runs_no_sizes (drop j sets) (drop (suc j) counts)
-runs_drop (m ∷ sets) (s ∷ sizes) [] (suc j) = runs_no_counts (drop j sets) (drop j sizes)
-runs_drop (m ∷ sets) (s ∷ sizes) (n ∷ counts) (suc j) = runs_drop sets sizes counts j
-
--- ---- rows
+pub count_sum : (rows : List Row) → sum_by (λ (x : Row). x.count) rows ≡ row_count rows
+count_sum rows = count_from 0 rows ∙ zero-add (row_count rows)
 
 -- Two lists of rows, one after the other.
 pub union_append : (a : ℕ) (l r : List Row) → union a (l ++ r) ≡ union (union a l) r

@@ -15,8 +15,7 @@ use lib.Seq.{drop-cons}
 use borrow.Author.Tests.{leb-true, leb-false, ltb-true, ltb-false, lt-ltb, le-ltb, le-leb, lt-leb}
 use mir.Syntax.{w64}
 use mir.Val.{Fits}
-use Rattle.cuts.specs.Runs.{runs_of}
-use Rattle.cuts.specs.Block.{Row, row, union, value_bytes, row_count, bytes_of, block_bytes}
+use Rattle.cuts.specs.Block.{Row, union, value_bytes, row_count, bytes_of, block_bytes}
 use Rattle.cuts.specs.Look.{block_limit, head_of, end_cost, LeastIn, IsFull, LookedNear, LookedFar, Small, Ends, Passed, TailIs, tail_with, tail_if, tail_of, found_if, found_of, FoundIs}
 use Rattle.cuts.specs.declared.block.Head.{Head}
 use Rattle.cuts.specs.declared.ends.Look.{Look}
@@ -25,7 +24,7 @@ use Rattle.cuts.specs.declared.tail.Found.{Found}
 use Rattle.cuts.proofs.SumLaws.{no_row}
 use Rattle.cuts.proofs.UnionLaws.{or_swap}
 use Rattle.cuts.proofs.LeastLaws.{least_far, least_near, least_pass}
-use Rattle.cuts.proofs.LookLaws.{run_at, runs_long, start_small, start_few}
+use Rattle.cuts.proofs.LookLaws.{start_small, start_few}
 
 -- ---- all columns
 
@@ -97,65 +96,55 @@ module _ (x : Row) (xs : List Row) (a : ℕ) (t : List ℕ) (e : bit_or (union 0
   }
 
 -- As the code has it: w and n are the size and the rows of the first run.
-module _ (sets sizes counts after : List ℕ) (small : Small sets sizes counts after) (tail : Tail)
-    (r : TailIs (drop 1 (runs_of sets sizes counts)) (drop 1 after) tail) where
-  abbrev runs : List Row
-  runs = runs_of sets sizes counts
-
-  some_run : 0 < length runs
-  some_run = omega (arith, runs_long sets sizes counts after small, small.some)
-
+module _ (runs : List Row) (after : List ℕ) (small : Small runs after) (tail : Tail) (r : TailIs (drop 1 runs) (drop 1 after) tail) where
   columns_are : tail.head.columns ≡ union 0 (drop 1 runs)
   columns_are = ap (λ (h : Head). h.columns) r.head
 
-  runs_ahead : runs ≡ row (get_or sets 0 0) (get_or sizes 0 0) (get_or counts 0 0) ∷ drop 1 runs
-  runs_ahead = drop-cons runs 0 no_row some_run ∙ ap (λ (x : Row). x ∷ drop 1 runs) (run_at sets sizes counts after small 0)
+  runs_ahead : runs ≡ get_or runs 0 no_row ∷ drop 1 runs
+  runs_ahead = drop-cons runs 0 no_row small.some
 
   after_ahead : after ≡ get_or after 0 0 ∷ drop 1 after
   after_ahead = drop-cons after 0 0 (omega (arith, small.rest, small.some))
 
   -- All columns of the runs.
-  pub columns_all : bit_or tail.head.columns (get_or sets 0 0) ≡ union 0 runs
+  pub columns_all : bit_or tail.head.columns (get_or runs 0 no_row).set ≡ union 0 runs
   columns_all =
-      ap (λ (n : ℕ). bit_or n (get_or sets 0 0)) columns_are
-      ∙ sym (ap (union 0) runs_ahead ∙ union_cons (row (get_or sets 0 0) (get_or sizes 0 0) (get_or counts 0 0)) (drop 1 runs))
+      ap (λ (n : ℕ). bit_or n (get_or runs 0 no_row).set) columns_are
+      ∙ sym (ap (union 0) runs_ahead ∙ union_cons (get_or runs 0 no_row) (drop 1 runs))
 
   pub from_fits : Fits w64 (tail.from + 1)
-  from_fits = record { fits = omega (arith, r.passed.within, length-drop 1 runs, runs_long sets sizes counts after small, small.few) }
+  from_fits = record { fits = omega (arith, r.passed.within, length-drop 1 runs, small.few) }
 
   pub best_fits : Fits w64 (tail.best + 1)
-  best_fits = record { fits = omega (arith, r.near, length-drop 1 runs, runs_long sets sizes counts after small, small.few) }
+  best_fits = record { fits = omega (arith, r.near, length-drop 1 runs, small.few) }
 
-  module _ (w : ℕ) (e : w ≡ get_or sizes 0 0) where
+  module _ (w : ℕ) (e : w ≡ (get_or runs 0 no_row).size) where
     pub size_fits : Fits w64 (tail.cost + w)
-    size_fits = record { fits = omega (arith, r.low, start_small sets sizes counts after small w e) }
+    size_fits = record { fits = omega (arith, r.low, start_small runs after small w e) }
 
-    module _ (n : ℕ) (d : n ≡ get_or counts 0 0) (b : tail.head.columns < 2 ^ 64) where
+    module _ (n : ℕ) (d : n ≡ (get_or runs 0 no_row).count) (b : tail.head.columns < 2 ^ 64) where
       count_low : n * tail.head.count ≤ 65536
       count_low =
-          omega (arith, mul-le-mul (start_few sets sizes counts after small n d) (ones-le 64 tail.head.columns b), ap (λ (h : Head). n * h.count) r.head, ap (λ (k : ℕ). n * ones k) columns_are)
+          omega (arith, mul-le-mul (start_few runs after small n d) (ones-le 64 tail.head.columns b), ap (λ (h : Head). n * h.count) r.head, ap (λ (k : ℕ). n * ones k) columns_are)
 
       pub cells_fit : Fits w64 (n * tail.head.count)
       cells_fit = record { fits = omega (arith, count_low) }
 
       pub cost_fits : Fits w64 (tail.cost + w + n * tail.head.count)
-      cost_fits = record { fits = omega (arith, r.low, start_small sets sizes counts after small w e, count_low) }
+      cost_fits = record { fits = omega (arith, r.low, start_small runs after small w e, count_low) }
 
-    pub passed_on : (n : ℕ) → n ≡ get_or counts 0 0 → bit_or tail.head.columns (get_or sets 0 0) ≡ tail.head.columns
+    pub passed_on : (n : ℕ) → n ≡ (get_or runs 0 no_row).count → bit_or tail.head.columns (get_or runs 0 no_row).set ≡ tail.head.columns
         → Passed runs after (record { head = tail.head; from = tail.from + 1; best = tail.best + 1; cost = tail.cost + w + n * tail.head.count })
     passed_on n d same =
         subst₂ (λ (l : List Row) (t : List ℕ). Passed l t (record { head = tail.head; from = tail.from + 1; best = tail.best + 1; cost = tail.cost + w + n * tail.head.count }))
         (sym runs_ahead) (sym after_ahead)
-        (passed_more (row (get_or sets 0 0) (get_or sizes 0 0) (get_or counts 0 0)) (drop 1 runs) (get_or after 0 0) (drop 1 after)
+        (passed_more (get_or runs 0 no_row) (drop 1 runs) (get_or after 0 0) (drop 1 after)
         (rw columns_are at same) tail (tail.cost + w + n * tail.head.count) r
-        (omega (arith, ap (λ (h : Head). n * h.count) r.head, ap (λ (k : ℕ). k * ones (union 0 (drop 1 runs))) d)))
+        (omega (arith, e, ap (λ (h : Head). n * h.count) r.head, ap (λ (k : ℕ). k * ones (union 0 (drop 1 runs))) d)))
 
   -- None is passed on.
-  pub passed_none : Passed runs after (record { head = tail.head; from = length sets; best = 0; cost = 0 })
-  passed_none = record {
-    within = omega (arith, runs_long sets sizes counts after small);
-    ends = λ h. absurd (omega (arith, runs_long sets sizes counts after small));
-  }
+  pub passed_none : Passed runs after (record { head = tail.head; from = length runs; best = 0; cost = 0 })
+  passed_none = record { within = omega arith; ends = λ h. absurd (omega arith) }
 
 pub ruleset pass-needs = (from_fits, best_fits, size_fits, cells_fit, cost_fits, passed_on, passed_none)
 
@@ -256,15 +245,11 @@ module _ (runs : List Row) (after : List ℕ) (low : (k : ℕ) → get_or after 
       → FoundIs runs after (found_of near (tail_of far passed (length runs)))
   found_made far passed f p = let t = tail_made far passed f p in found_with (tail_of far passed (length runs)) t.0 t.1
 
--- The same, of as many runs as there are sets.
-pub passed_within : (sets sizes counts after : List ℕ) → Small sets sizes counts after → (passed : Tail) → Passed (runs_of sets sizes counts) after passed → passed.from ≤ length sets
-passed_within sets sizes counts after small passed p = omega (arith, p.within, runs_long sets sizes counts after small)
-
-pub found_all : (sets sizes counts after : List ℕ) → Small sets sizes counts after → (near far : Look) (passed tail : Tail) (found : Found) → LookedNear (runs_of sets sizes counts) after near
-    → LookedFar (runs_of sets sizes counts) after near passed.from far → Passed (runs_of sets sizes counts) after passed
-    → tail ≡ tail_of far passed (length sets) → found ≡ found_of near tail → FoundIs (runs_of sets sizes counts) after found
-found_all sets sizes counts after small near far passed tail found n f p e d =
-    rw (d, e, ← runs_long sets sizes counts after small) (found_made (runs_of sets sizes counts) after small.low near n far passed f p)
+-- As the code has it.
+pub found_all : (runs : List Row) (after : List ℕ) → Small runs after → (near far : Look) (passed tail : Tail) (found : Found) → LookedNear runs after near
+    → LookedFar runs after near passed.from far → Passed runs after passed
+    → tail ≡ tail_of far passed (length runs) → found ≡ found_of near tail → FoundIs runs after found
+found_all runs after small near far passed tail found n f p e d = rw (d, e) (found_made runs after small.low near n far passed f p)
 
 -- What the code makes is what is defined.
 module _ (far : Look) (passed : Tail) (runs : ℕ) where

@@ -3,6 +3,9 @@ use Rattle.std.specs.Prelude.{List, [], ◌∷◌, ℕ, ◌+◌, ◌*◌, length
 use Rattle.std.specs.Int.Bits.{bit_or}
 use Rattle.std.specs.Int.Count.{ones}
 use Rattle.element.specs.Set.{name_bytes}
+-- A row, a struct of the code: the set of its present elements, the bytes of its values, and how many rows of the report it stands for:
+-- 1, or more for a run of rows with one set.
+pub use Rattle.cuts.specs.declared.block.Row.{Row}
 
 -- The most rows that the search can cut. This is a bound of its own, not the reader's limit on data lines.
 abbrev pub most_rows : ℕ
@@ -11,13 +14,6 @@ most_rows = 1024
 -- The most bytes that the values of these rows may have together.
 abbrev pub most_bytes : ℕ
 most_bytes = 65536
-
--- A row: the set of its present elements, the bytes of its values, and how many rows of the report it stands for: 1, or more for a
--- run of rows with one set.
-pub record Row : Type 0 where
-  pub set : ℕ
-  pub size : ℕ
-  pub count : ℕ
 
 -- The row with this set, this size and this count.
 abbrev pub row : ℕ → ℕ → ℕ → Row

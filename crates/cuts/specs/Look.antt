@@ -5,7 +5,6 @@ use Rattle.std.specs.Int.Count.{ones}
 use Rattle.element.specs.Set.{name_bytes}
 use Rattle.cuts.specs.Block.{most_rows, most_bytes, Row, union, value_bytes, row_count, block_bytes}
 use Rattle.cuts.specs.Cheapest.{best_costs, first_blocks}
-use Rattle.cuts.specs.Runs.{runs_of}
 use Rattle.cuts.specs.declared.block.Head.{Head}
 use Rattle.cuts.specs.declared.ends.Look.{Look}
 use Rattle.cuts.specs.declared.tail.Tail.{Tail}
@@ -60,14 +59,12 @@ pub record LookedFar (runs : List Row) (after : List ℕ) (near : Look) (to : �
   pub reached : to ≤ look.end + 1
 
 -- The runs are some, and their sums fit.
-pub record Small (sets sizes counts after : List ℕ) : Type 0 where
-  pub same : length sizes ≡ length sets
-  pub also : length counts ≡ length sets
-  pub some : 0 < length sets
-  pub few : length sets ≤ most_rows
-  pub rest : length after ≡ length sets
-  pub sum : value_bytes (runs_of sets sizes counts) ≤ most_bytes
-  pub all : row_count (runs_of sets sizes counts) ≤ most_rows
+pub record Small (runs : List Row) (after : List ℕ) : Type 0 where
+  pub some : 0 < length runs
+  pub few : length runs ≤ most_rows
+  pub rest : length after ≡ length runs
+  pub sum : value_bytes runs ≤ most_bytes
+  pub all : row_count runs ≤ most_rows
   pub low : (k : ℕ) → get_or after k 0 < 2 ^ 40
 
 -- ---- tails
@@ -125,14 +122,12 @@ pub record FoundIs (runs : List Row) (after : List ℕ) (found : Found) : Type 0
 -- ---- filling in
 
 -- The runs' sums fit, and so do the lists that are filled in.
-pub record Fit (sets sizes counts costs firsts : List ℕ) : Type 0 where
-  pub same : length sizes ≡ length sets
-  pub also : length counts ≡ length sets
-  pub few : length sets ≤ most_rows
-  pub sum : value_bytes (runs_of sets sizes counts) ≤ most_bytes
-  pub all : row_count (runs_of sets sizes counts) ≤ most_rows
-  pub costs_length : length costs ≡ length sets + 1
-  pub firsts_length : length firsts ≡ length sets
+pub record Fit (runs : List Row) (costs firsts : List ℕ) : Type 0 where
+  pub few : length runs ≤ most_rows
+  pub sum : value_bytes runs ≤ most_bytes
+  pub all : row_count runs ≤ most_rows
+  pub costs_length : length costs ≡ length runs + 1
+  pub firsts_length : length firsts ≡ length runs
 
 -- The costs and the first blocks from run i on are filled in.
 pub record Filled (more : Row → List Row → ℕ) (runs : List Row) (i : ℕ) (costs firsts : List ℕ) : Type 0 where

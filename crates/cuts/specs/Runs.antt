@@ -1,15 +1,8 @@
 -- A reviewer can skip this file: runs of rows with one set, and what private functions know of them.
-use Rattle.std.specs.Prelude.{◌≡◌, Bool, true, false, cond, List, [], ◌∷◌, ℕ, ◌+◌, ◌^◌, ◌≤◌, ◌<◌, eqb, length, take, drop, get_or}
-use Rattle.cuts.specs.Block.{most_rows, most_bytes, Row, row, rows_of, total, value_bytes, row_count, block_bytes}
+use Rattle.std.specs.Prelude.{◌≡◌, Bool, true, false, cond, List, [], ◌∷◌, ℕ, ◌+◌, ◌≤◌, eqb, length, take, drop}
+use Rattle.cuts.specs.Block.{most_rows, most_bytes, Row, row, rows_of, value_bytes, row_count, block_bytes}
 use Rattle.cuts.specs.Cheapest.{best_cost, chosen}
 use Rattle.cuts.specs.declared.Plan.{Plan}
-
--- The runs with these sets, these bytes of values and so many rows.
-abbrev pub runs_of : List ℕ → List ℕ → List ℕ → List Row
-runs_of [] sizes counts = []
-runs_of (set ∷ sets) [] counts = []
-runs_of (set ∷ sets) (size ∷ sizes) [] = []
-runs_of (set ∷ sets) (size ∷ sizes) (count ∷ counts) = row set size count ∷ runs_of sets sizes counts
 
 -- The row x before the run: one run where the test says so, else two.
 abbrev pub onto_run : Bool → Row → Row → List Row → List Row
@@ -44,10 +37,10 @@ runs_in (set ∷ sets) = 1 + changes set sets
 abbrev pub few_runs : ℕ
 few_runs = 16
 
--- A cut list in rows, from the one in runs and the rows of the runs.
-abbrev pub in_rows : List ℕ → List ℕ → List ℕ
-in_rows [] counts = []
-in_rows (k ∷ ks) counts = total (take k counts) ∷ in_rows ks (drop k counts)
+-- A cut list in rows, from the one in runs.
+abbrev pub in_rows : List ℕ → List Row → List ℕ
+in_rows [] runs = []
+in_rows (k ∷ ks) runs = row_count (take k runs) ∷ in_rows ks (drop k runs)
 
 -- The rows are within the limits, and there is room for their cuts.
 pub record Ready (sets sizes cuts : List ℕ) : Type 0 where
@@ -57,39 +50,28 @@ pub record Ready (sets sizes cuts : List ℕ) : Type 0 where
   pub room : length sets ≤ length cuts
 
 -- The runs are within the limits, and there is room for their cuts.
-pub record ReadyRuns (sets sizes counts cuts : List ℕ) : Type 0 where
-  pub same : length sizes ≡ length sets
-  pub also : length counts ≡ length sets
-  pub few : length sets ≤ most_rows
-  pub sum : value_bytes (runs_of sets sizes counts) ≤ most_bytes
-  pub all : row_count (runs_of sets sizes counts) ≤ most_rows
-  pub room : length sets ≤ length cuts
+pub record ReadyRuns (runs : List Row) (cuts : List ℕ) : Type 0 where
+  pub few : length runs ≤ most_rows
+  pub sum : value_bytes runs ≤ most_bytes
+  pub all : row_count runs ≤ most_rows
+  pub room : length runs ≤ length cuts
 
 -- The chosen cut list of the runs is written, in rows, and the plan says its bytes.
-pub record PlannedRuns (more : Row → List Row → ℕ) (runs : List Row) (counts : List ℕ) (plan : Plan) (before after : List ℕ) : Type 0 where
+pub record PlannedRuns (more : Row → List Row → ℕ) (runs : List Row) (plan : Plan) (before after : List ℕ) : Type 0 where
   pub within : plan.blocks ≤ length after
-  pub cut : take plan.blocks after ≡ in_rows (chosen block_bytes more runs) counts
+  pub cut : take plan.blocks after ≡ in_rows (chosen block_bytes more runs) runs
   pub bytes : plan.bytes ≡ best_cost block_bytes more runs
   pub kept : drop plan.blocks after ≡ drop plan.blocks before
 
 -- The rows are within the limits, and there is room for their runs.
-pub record Room (sets sizes runSets runSizes runCounts : List ℕ) : Type 0 where
+pub record Room (sets sizes : List ℕ) (runs : List Row) : Type 0 where
   pub same : length sizes ≡ length sets
   pub few : length sets ≤ most_rows
   pub sum : value_bytes (rows_of sets sizes) ≤ most_bytes
-  pub sizes_length : length runSizes ≡ length runSets
-  pub counts_length : length runCounts ≡ length runSets
-  pub fits : length (press (rows_of sets sizes)) ≤ length runSets
+  pub fits : length (press (rows_of sets sizes)) ≤ length runs
 
 -- The rows from i on are the runs from j on.
-pub record Pressed (sets sizes : List ℕ) (i : ℕ) (runSets runSizes runCounts : List ℕ) (j : ℕ) : Type 0 where
-  pub room : Room sets sizes runSets runSizes runCounts
-  pub within : j ≤ length runSets
-  pub are : runs_of (drop j runSets) (drop j runSizes) (drop j runCounts) ≡ press (drop i (rows_of sets sizes))
-
--- A row of this size can join the run j.
-pub record Joins (runSizes runCounts : List ℕ) (j size : ℕ) : Type 0 where
-  pub in_sizes : j < length runSizes
-  pub in_counts : j < length runCounts
-  pub fits : get_or runSizes j 0 + size < 2 ^ 32
-  pub more : get_or runCounts j 0 + 1 < 2 ^ 16
+pub record Pressed (sets sizes : List ℕ) (i : ℕ) (runs : List Row) (j : ℕ) : Type 0 where
+  pub room : Room sets sizes runs
+  pub within : j ≤ length runs
+  pub are : drop j runs ≡ press (drop i (rows_of sets sizes))

@@ -5,4 +5,4 @@ use Rattle.cuts.specs.Walk.{Written}
 use Rattle.cuts.proofs.cut_list.write_cuts.Given as goal
 
 abbrev pub invariant-loop-i : goal.invariant-loop-i
-invariant-loop-i l = (l.i ≤ length l.firsts) × Written l.firsts l.counts l.initial.cuts l.i l.walk l.cuts
+invariant-loop-i l = (l.i ≤ length l.firsts) × Written l.runs l.firsts l.initial.cuts l.i l.walk l.cuts

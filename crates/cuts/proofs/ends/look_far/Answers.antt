@@ -1,7 +1,6 @@
 -- `cuts::ends::look_far` meets its contract. The invariant: the ends from that one on are looked at.
 use mathlib.Core.Path.{refl, ◌∙◌}
 use native.Mathlib.Omega.{arith}
-use Rattle.cuts.proofs.LookLaws.{end_inside}
 use Rattle.cuts.proofs.ends.look_far.Goals as goal
 
 pub look_anew-look-requires : goal.look_anew-look-requires
@@ -11,7 +10,7 @@ pub loop-look-init : goal.loop-look-init
 loop-look-init c = (c.look_anew-look.ensures.0, refl)
 
 pub overflow_add-look : goal.overflow_add-look
-overflow_add-look c = omega (arith, end_inside _ _ _ _ c.requires.0 _ c.loop-look.invariant.0, c.requires.0.few)
+overflow_add-look c = omega (arith, c.loop-look.invariant.0.inside, c.requires.0.few)
 
 pub look_further-look-requires : goal.look_further-look-requires
 look_further-look-requires c = (c.requires.0, c.loop-look.invariant.0, omega (arith, c.loop-look-test.true, c.requires.2))

@@ -2,12 +2,11 @@
 use Prim.Native.Nat.{◌-◌}
 use mathlib.Core.Path.{◌≡◌}
 use lib.ListN.{length}
-use Rattle.cuts.specs.Runs.{runs_of}
 use Rattle.cuts.specs.Look.{Looked}
 use Rattle.cuts.proofs.ends.look_far.Given as goal
 
 abbrev pub invariant-loop-look : goal.invariant-loop-look
-invariant-loop-look l = Looked (runs_of l.sets l.sizes l.counts) l.after l.look × (l.look.from ≡ l.initial.look.from)
+invariant-loop-look l = Looked l.runs l.after l.look × (l.look.from ≡ l.initial.look.from)
 
 abbrev pub decreases-loop-look : goal.decreases-loop-look
-decreases-loop-look l = length l.sets - l.look.end
+decreases-loop-look l = length l.runs - l.look.end

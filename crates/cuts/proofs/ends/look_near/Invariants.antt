@@ -1,12 +1,11 @@
 -- `cuts::ends::look_near` meets its contract. The invariant: all ends looked at but the last are too soon.
 use Prim.Native.Nat.{◌-◌}
 use lib.ListN.{length}
-use Rattle.cuts.specs.Runs.{runs_of}
 use Rattle.cuts.proofs.LookLaws.{Nearing}
 use Rattle.cuts.proofs.ends.look_near.Given as goal
 
 abbrev pub invariant-loop-look : goal.invariant-loop-look
-invariant-loop-look l = Nearing (runs_of l.sets l.sizes l.counts) l.after l.look
+invariant-loop-look l = Nearing l.runs l.after l.look
 
 abbrev pub decreases-loop-look : goal.decreases-loop-look
-decreases-loop-look l = length l.sets - l.look.end
+decreases-loop-look l = length l.runs - l.look.end

@@ -1,64 +1,36 @@
 -- `cuts::runs::press_row` meets its contract.
-use borrow.Author.Rules.{rules}
-use Rattle.cuts.proofs.PressLaws.{press-needs}
+use Rattle.std.proofs.Common.{◌≡◌, ◌∷◌, arith, drop, refl}
+use Rattle.cuts.specs.Block.{rows_of}
+use Rattle.cuts.specs.Runs.{press}
+use Rattle.cuts.proofs.PressLaws.{x, size_fits, count_fits, join_done, other_run, last_run, some_left, begin_done}
 use Rattle.cuts.proofs.runs.press_row.Goals as goal
+use Rattle.cuts.proofs.runs.press_row.Goals.{Joined-else-j-runs, else-j-runs-via-then-j-runs+else-runs-j, else-j-runs-via-else-j-runs}
 
-pub offset_bounds-sets-i : goal.offset_bounds-sets-i
-offset_bounds-sets-i c = search (rules, press-needs)
+-- The row is a run of its own.
+alone : (c : Joined-else-j-runs) → press (drop c.args.i (rows_of c.args.sets.now c.args.sizes.now)) ≡ x _ _ _ _ _ c.requires.0 c.requires.1 ∷ drop c.args.j c.args.runs.now
+alone c =
+    elim c.else-j-runs.branch [
+      | else-j-runs-via-then-j-runs+else-runs-j w ↦ other_run _ _ _ _ _ c.requires.0 c.requires.1 w.if-j-runs.true w.if-runs-j.false
+      | else-j-runs-via-else-j-runs w ↦ last_run _ _ _ _ _ c.requires.0 c.requires.1 w.if-j-runs.false
+    ]
 
-pub bounds-sets-i : goal.bounds-sets-i
-bounds-sets-i c = search (rules, press-needs)
+pub overflow_add-runs : goal.overflow_add-runs
+overflow_add-runs c = size_fits _ _ _ _ _ c.requires.0 c.requires.1 c.if-j-runs.true
 
-pub offset_bounds-sizes-i : goal.offset_bounds-sizes-i
-offset_bounds-sizes-i c = search (rules, press-needs)
+pub overflow_add-runs-then-runs-j : goal.overflow_add-runs-then-runs-j
+overflow_add-runs-then-runs-j c = count_fits _ _ _ _ _ c.requires.0 c.requires.1 c.if-j-runs.true
 
-pub bounds-sizes-i : goal.bounds-sizes-i
-bounds-sizes-i c = search (rules, press-needs)
+pub overflow_sub-j : goal.overflow_sub-j
+overflow_sub-j c = omega (arith, some_left _ _ _ _ _ c.requires.0 c.requires.1 (alone c))
 
-pub offset_bounds-run_sets-j : goal.offset_bounds-run_sets-j
-offset_bounds-run_sets-j c = search (rules, press-needs)
+pub bounds-runs-j-else-j-runs : goal.bounds-runs-j-else-j-runs
+bounds-runs-j-else-j-runs c = omega (arith, some_left _ _ _ _ _ c.requires.0 c.requires.1 (alone c), c.requires.0.within)
 
-pub bounds-run_sets-j : goal.bounds-run_sets-j
-bounds-run_sets-j c = search (rules, press-needs)
+pub overflow_sub-result : goal.overflow_sub-result
+overflow_sub-result c = omega (arith, some_left _ _ _ _ _ c.requires.0 c.requires.1 (alone c))
 
-pub join_run-requires : goal.join_run-requires
-join_run-requires c = search (rules, press-needs)
+pub returns-then-runs-j : goal.returns-then-runs-j
+returns-then-runs-j c = join_done _ _ _ _ _ c.requires.0 c.requires.1 c.if-j-runs.true _ c.if-runs-j.true refl
 
-pub begin_run-requires : goal.begin_run-requires
-begin_run-requires c = search (rules, press-needs)
-
-pub begin_run-requires-else-j-run_sets : goal.begin_run-requires-else-j-run_sets
-begin_run-requires-else-j-run_sets c = search (rules, press-needs)
-
-pub shape_of-run_sizes-then-run_sets-j : goal.shape_of-run_sizes-then-run_sets-j
-shape_of-run_sizes-then-run_sets-j c = search (rules, press-needs)
-
-pub shape_of-run_counts-then-run_sets-j : goal.shape_of-run_counts-then-run_sets-j
-shape_of-run_counts-then-run_sets-j c = search (rules, press-needs)
-
-pub returns-then-run_sets-j : goal.returns-then-run_sets-j
-returns-then-run_sets-j c = search (rules, press-needs)
-
-pub shape_of-run_sets-else-run_sets-j : goal.shape_of-run_sets-else-run_sets-j
-shape_of-run_sets-else-run_sets-j c = search (rules, press-needs)
-
-pub shape_of-run_sizes-else-run_sets-j : goal.shape_of-run_sizes-else-run_sets-j
-shape_of-run_sizes-else-run_sets-j c = search (rules, press-needs)
-
-pub shape_of-run_counts-else-run_sets-j : goal.shape_of-run_counts-else-run_sets-j
-shape_of-run_counts-else-run_sets-j c = search (rules, press-needs)
-
-pub returns-else-run_sets-j : goal.returns-else-run_sets-j
-returns-else-run_sets-j c = search (rules, press-needs)
-
-pub shape_of-run_sets-else-j-run_sets : goal.shape_of-run_sets-else-j-run_sets
-shape_of-run_sets-else-j-run_sets c = search (rules, press-needs)
-
-pub shape_of-run_sizes-else-j-run_sets : goal.shape_of-run_sizes-else-j-run_sets
-shape_of-run_sizes-else-j-run_sets c = search (rules, press-needs)
-
-pub shape_of-run_counts-else-j-run_sets : goal.shape_of-run_counts-else-j-run_sets
-shape_of-run_counts-else-j-run_sets c = search (rules, press-needs)
-
-pub returns-else-j-run_sets : goal.returns-else-j-run_sets
-returns-else-j-run_sets c = search (rules, press-needs)
+pub returns-else-j-runs : goal.returns-else-j-runs
+returns-else-j-runs c = begin_done _ _ _ _ _ c.requires.0 c.requires.1 (alone c)

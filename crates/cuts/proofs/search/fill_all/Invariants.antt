@@ -2,10 +2,9 @@
 use Prim.Native.Nat.{◌≤◌, ◌+◌}
 use mathlib.Core.Path.{◌≡◌}
 use lib.ListN.{length, drop}
-use Rattle.cuts.specs.Runs.{runs_of}
 use Rattle.cuts.specs.Block.{all_more}
 use Rattle.cuts.specs.Look.{Filled, TailIs}
 use Rattle.cuts.proofs.search.fill_all.Given as goal
 
 abbrev pub invariant-loop-i : goal.invariant-loop-i
-invariant-loop-i l = (l.n ≡ length l.sets) × (l.i ≤ length l.sets) × Filled all_more (runs_of l.sets l.sizes l.counts) l.i l.costs l.firsts × TailIs (drop l.i (runs_of l.sets l.sizes l.counts)) (drop (l.i + 1) l.costs) l.tail
+invariant-loop-i l = (l.n ≡ length l.runs) × (l.i ≤ length l.runs) × Filled all_more l.runs l.i l.costs l.firsts × TailIs (drop l.i l.runs) (drop (l.i + 1) l.costs) l.tail
