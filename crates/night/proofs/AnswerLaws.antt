@@ -1,21 +1,20 @@
 -- Laws of what writing answers and leaves.
-use Prim.Native.Nat.{ℕ, ◌+◌, ◌-◌, ◌*◌, ◌/◌, ◌≤◌, ◌<◌}
+use Prim.Native.Nat.{ℕ, ◌+◌, ◌-◌, ◌*◌, ◌≤◌, ◌<◌}
 use mathlib.Core.Path.{◌≡◌, refl, sym, ap, ◌∙◌}
-use mathlib.Core.Bool.{Bool, true, false, not, ◌&&◌, ◌||◌}
+use mathlib.Core.Bool.{Bool, false, not, ◌&&◌}
 use mathlib.Core.List.{List, []}
 use native.Mathlib.Omega.{arith}
-use lib.Dec.{leb, ltb}
+use lib.Dec.{leb}
 use lib.ListN.{length, get_or}
-use borrow.Author.Tests.{leb-true, le-leb, lt-leb, ltb-true, ltb-false}
+use borrow.Author.Tests.{leb-true, le-leb}
 use Rattle.text.proofs.Bools.{bools, both}
-use Rattle.refusal.specs.Paper.{Paper, paper, Answer, refused_by, given}
+use Rattle.refusal.specs.Paper.{Paper, paper, request, Answer, refused_by, given}
 use Rattle.refusal.specs.declared.Kind.TheVariants.{NoObservation, NotOptical, ListTooShort}
 use Rattle.refusal.specs.declared.Refusal.{Refusal}
 use Rattle.element.specs.Observation.{Observation, is_radar, is_radar_set}
 use Rattle.element.specs.Table.{elements}
 use Rattle.element.proofs.Sets.{set_radar}
 use Rattle.report.specs.Report.{refused, read}
-use Rattle.report.specs.Answers.{request}
 use Rattle.report.specs.Index.{Index, rows_in, room_in, AcceptedIs, IndexIs, noted_value}
 use Rattle.report.specs.declared.answer.Checked.{Checked}
 use Rattle.report.proofs.AnswerLaws.{accepted_of}
@@ -36,42 +35,6 @@ write_refused report n list e = (rw e refl, rw e refl)
 
 refused≢given : (p : Paper) → ◌≡◌ {A = Answer Done} (refused_by p) (given done) → ⊥
 refused≢given p e = absurd (let z : ◌≡◌ {A = ℕ} 0 1 = cc in omega arith)
-
--- The number is one of so many.
-pub inside : (count n : ℕ) → (ltb n 1 || ltb count n) ≡ false → (1 ≤ n) × (n ≤ count)
-inside count n e =
-    bools (ltb n 1)
-    (λ a. absurd (let z : ◌≡◌ {A = ℕ} 0 1 = cc in omega arith))
-    (λ a. (ltb-false n 1 a, ltb-false count n (rw a at e)))
-
--- Or none of them.
-pub outside : (count n : ℕ) → (ltb n 1 || ltb count n) ≡ true → (leb 1 n && leb n count) ≡ false
-outside count n e =
-    bools (ltb n 1)
-    (λ a. rw (lt-leb 1 n (ltb-true n 1 a)) refl)
-    (λ a. rw (le-leb 1 n (ltb-false n 1 a), lt-leb n count (ltb-true count n (rw a at e))) refl)
-
--- There is no such observation.
-pub place_none : (count : ℕ) (radar : Bool) (n room : ℕ) → (ltb n 1 || ltb count n) ≡ true
-    → refused_by (paper (request NoObservation)) ≡ place_answer count radar n room
-place_none count radar n room e = rw (outside count n e) refl
-
--- It is radar.
-pub place_radar : (count : ℕ) (radar : Bool) (n room : ℕ) → (ltb n 1 || ltb count n) ≡ false → radar ≡ true
-    → refused_by (paper (request NotOptical)) ≡ place_answer count radar n room
-place_radar count radar n room e r = let k = inside count n e in rw (le-leb 1 n k.0, le-leb n count k.1, r) refl
-
--- There is no room for it.
-pub place_short : (count : ℕ) (radar : Bool) (n room : ℕ) → (ltb n 1 || ltb count n) ≡ false → radar ≡ false → room / record_size < n
-    → refused_by (paper (request ListTooShort)) ≡ place_answer count radar n room
-place_short count radar n room e r h =
-    let k = inside count n e in rw (le-leb 1 n k.0, le-leb n count k.1, r, lt-leb (n * record_size) room (omega arith)) refl
-
--- It is written.
-pub place_done : (count : ℕ) (radar : Bool) (n room : ℕ) → (ltb n 1 || ltb count n) ≡ false → radar ≡ false → n ≤ room / record_size
-    → given done ≡ place_answer count radar n room
-place_done count radar n room e r h =
-    let k = inside count n e in rw (le-leb 1 n k.0, le-leb n count k.1, r, le-leb (n * record_size) room (omega arith)) refl
 
 -- A refusal keeps the list.
 pub place_refused : {p : Paper} (count : ℕ) (radar : Bool) (n room : ℕ) → refused_by p ≡ place_answer count radar n room

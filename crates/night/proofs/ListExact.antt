@@ -67,7 +67,7 @@ unfolding first_bad
 list_exact list = found_from (record_count list) 1 list (omega arith)
 
 -- What the answers of the check and of the reader come from.
-given_none : (list : List ℕ) (count : ℕ) → list_answer list ≡ given count → (first_bad list ≡ 0) × (record_count list ≡ count)
+pub given_none : (list : List ℕ) (count : ℕ) → list_answer list ≡ given count → (first_bad list ≡ 0) × (record_count list ≡ count)
 unfolding list_answer
 given_none list count h =
     let p = test (eqb (first_bad list) 0) (record_count list) (paper (bad_record (first_bad list))) h in (eqb-true (first_bad list) 0 p.0, p.1)

@@ -1,59 +1,81 @@
 -- Laws of the search for the first bad record, one by one.
-use Prim.Native.Nat.{ℕ, suc, ◌+◌, ◌-◌, ◌^◌, ◌≤◌, ◌<◌}
-use mathlib.Core.Path.{◌≡◌, refl, sym}
+use Prim.Native.Nat.{ℕ, zero, suc, ◌+◌, ◌-◌, ◌*◌, ◌≤◌, ◌<◌, min}
+use mathlib.Core.Path.{◌≡◌, refl, sym, ap, ◌∙◌}
 use mathlib.Core.Bool.{true, false}
-use mathlib.Core.List.{List}
+use mathlib.Core.List.{List, [], ◌∷◌, ◌++◌}
 use native.Mathlib.Omega.{arith}
 use native.Mathlib.Numerals.{add-one}
-use lib.ListN.{length}
-use mir.Syntax.{w64}
-use mir.Val.{Fits}
+use lib.ListN.{length, take, drop, length-drop}
+use Rattle.std.proofs.lemmas.List.{drop-drop}
+use Rattle.std.specs.Prelude.{Some, None}
+use Rattle.text.specs.Numbered.{numbered}
 use Rattle.night.specs.Record.{is_record}
-use Rattle.night.specs.List.{record_at, record_count, bad_from, first_bad}
+use Rattle.night.specs.List.{record_size, record_at, record_count, bad_from, first_bad}
 
--- The search stands at a number: the records before it are right.
-pub record Looking (list : List ℕ) (number : ℕ) : Type 0 where
-  pub first : 1 ≤ number
-  pub last : number ≤ suc (record_count list)
-  pub left : first_bad list ≡ bad_from (suc (record_count list) - number) number list
+-- The front of a text, as long as a size lets it be, is the text's first so many, and the rest is what they leave.
+front_is : (size : ℕ) (front rest : List ℕ) → length front ≡ min size (length (front ++ rest))
+    → (take size (front ++ rest) ≡ front) × (drop size (front ++ rest) ≡ rest)
+front_is zero [] rest h = (refl, refl)
+front_is zero (b ∷ front) rest h = absurd (omega arith)
+front_is (suc size) [] [] h = (refl, refl)
+front_is (suc size) [] (b ∷ rest) h = absurd (omega arith)
+front_is (suc size) (b ∷ front) rest h =
+    let parts = front_is size front rest (omega arith) in
+    (ap (λ (l : List ℕ). b ∷ l) parts.0, parts.1)
 
-module _ (list : List ℕ) where
-  pub look_start : Looking list 1
+-- The search has seen so many records, all right.
+pub record Looking (list : List ℕ) (seen : ℕ) : Type 0 where
+  pub few : seen ≤ record_count list
+  pub left : first_bad list ≡ bad_from (record_count list - seen) (seen + 1) list
+
+module _ (list : List ℕ) (n : ℕ) where
+  pub look_start : n ≡ 0 → Looking list n
   unfolding first_bad
-  look_start =
-      let e : suc (record_count list) - 1 ≡ record_count list = omega arith in
-      record { first = omega arith; last = omega arith; left = rw e refl }
+  look_start none =
+      let all : record_count list - 0 ≡ record_count list = omega arith in
+      rw none (record { few = omega arith; left = rw all refl })
 
-  -- There is nothing left to look at.
-  pub look_end : (n : ℕ) → Looking list n → record_count list < n → 0 ≡ first_bad list
-  unfolding bad_from
-  look_end n k h =
-      let e : suc (record_count list) - n ≡ 0 = omega (arith, k.last) in
-      sym (rw e at k.left)
+  module _ (k : Looking list n) (rest : List ℕ) (is : rest ≡ drop (n * record_size) list) where
+    here : length rest ≡ length list - n * record_size
+    here = ap length is ∙ length-drop (n * record_size) list
 
-  module _ (n : ℕ) (k : Looking list n) (h : n ≤ record_count list) where
-    again : suc (record_count list) - n ≡ suc (record_count list - n)
-    again = omega arith
-
-    -- The record is right, and the search goes on.
-    pub look_on : is_record n (record_at n list) ≡ true → Looking list (n + 1)
+    -- There is nothing left to look at.
+    pub look_end : length rest ≡ 0 → None ≡ numbered (first_bad list)
     unfolding bad_from
-    look_on e =
-        let m : suc (record_count list) - (n + 1) ≡ record_count list - n = omega arith in
-        record {
-          first = omega (arith, k.first);
-          last = omega arith;
-          left = rw (m, add-one) (rw (again, e) at k.left);
-        }
+    look_end none =
+        let e : record_count list - n ≡ 0 = omega (arith, here, k.few) in
+        rw (k.left, e) refl
 
-    -- Fewer are left, and the next number is one of the machine.
-    pub look_less : suc (record_count list) - (n + 1) < suc (record_count list) - n
-    look_less = omega arith
+    -- A record comes off the rest.
+    module _ (front rest' : List ℕ) (parts : rest ≡ front ++ rest') (long : length front ≡ min record_size (length rest)) (some : 0 < length rest) where
+      whole : (take record_size rest ≡ front) × (drop record_size rest ≡ rest')
+      whole = rw parts (front_is record_size front rest' (long ∙ ap (λ (l : List ℕ). min record_size (length l)) parts))
 
-    pub look_fits : length list < 2 ^ 64 → Fits w64 (n + 1)
-    look_fits small = record { fits = omega arith }
+      front_at : front ≡ record_at (n + 1) list
+      front_at =
+          let place : n * record_size ≡ (n + 1 - 1) * record_size = omega arith in
+          sym whole.0 ∙ ap (take record_size) (is ∙ ap (λ (p : ℕ). drop p list) place)
 
-    -- The record is bad.
-    pub look_bad : is_record n (record_at n list) ≡ false → n ≡ first_bad list
-    unfolding bad_from
-    look_bad e = sym (rw (again, e) at k.left)
+      pub rest_is : rest' ≡ drop ((n + 1) * record_size) list
+      rest_is = sym whole.1 ∙ ap (drop record_size) is ∙ drop-drop _ _ list ∙ ap (λ (p : ℕ). drop p list) next
+        where
+          next : n * record_size + record_size ≡ (n + 1) * record_size
+          next = omega arith
+
+      again : record_count list - n ≡ suc (record_count list - (n + 1))
+      again = omega (arith, here)
+
+      -- The record is right, and the search goes on.
+      pub look_on : is_record (n + 1) front ≡ true → Looking list (n + 1)
+      unfolding bad_from
+      look_on right =
+          let right' : is_record (n + 1) (record_at (n + 1) list) ≡ true = rw front_at at right in
+          record { few = omega (arith, here); left = k.left ∙ rw (again, right', add-one (n + 1)) refl }
+
+      -- The record is bad.
+      pub look_bad : is_record (n + 1) front ≡ false → Some (n + 1) ≡ numbered (first_bad list)
+      unfolding bad_from
+      look_bad bad =
+          let bad' : is_record (n + 1) (record_at (n + 1) list) ≡ false = rw front_at at bad in
+          let found : first_bad list ≡ n + 1 = k.left ∙ rw (again, bad') refl in
+          rw (found, add-one n) refl

@@ -1,9 +1,9 @@
 -- Laws of a record that is written field by field, and of a list with a record in its place.
-use Prim.Native.Nat.{ℕ, zero, suc, ◌+◌, ◌-◌, ◌≤◌, ◌<◌}
+use Prim.Native.Nat.{ℕ, ◌+◌, ◌-◌, ◌≤◌, min}
 use mathlib.Core.Path.{◌≡◌, refl, ap, ◌∙◌}
 use mathlib.Core.List.{List, [], ◌∷◌, ◌++◌, append-nil}
 use native.Mathlib.Omega.{arith}
-use lib.ListN.{length, take, drop, set, get_or, length-set, length-take, length-drop, drop_of_length-le}
+use lib.ListN.{length, take, drop, replicate, length-take, length-drop, drop_of_length-le}
 use lib.Seq.{take_all}
 use Rattle.text.specs.Lines.{blank}
 use Rattle.text.specs.Output.{over, put_over, low_bytes}
@@ -16,36 +16,29 @@ use Rattle.night.specs.List.{place_of, list_with}
 pub low_over : (count number : ℕ) (output : List ℕ) → count ≤ length output → put_over (low_bytes count number) output ≡ over (low_bytes count number) output
 low_over count number output h = (put_room (low_bytes count number) output (omega (arith, low_count count number))).1
 
--- A byte within an output, or past its end.
-pub byte_within : (s : List ℕ) (i : ℕ) → i < length s → get_or s i 0 ≡ get_or s i blank
-byte_within [] i h = absurd (omega arith)
-byte_within (x ∷ s) zero h = refl
-byte_within (x ∷ s) (suc i) h = byte_within s i (omega arith)
-
-pub byte_past : (s : List ℕ) (i : ℕ) → length s ≤ i → blank ≡ get_or s i blank
-byte_past [] i h = refl
-byte_past (x ∷ s) zero h = absurd (omega arith)
-byte_past (x ∷ s) (suc i) h = byte_past s i (omega arith)
-
--- A store keeps the length.
-pub set_room : (s : List ℕ) (i v k : ℕ) → k < length s → k < length (set s i v)
-set_room s i v k h = rw length-set h
-
--- Four bytes stored one by one.
-pub four_over : (output : List ℕ) (a b c d : ℕ) → 4 ≤ length output
-    → set (set (set (set output 0 a) 1 b) 2 c) 3 d ≡ over (a ∷ b ∷ c ∷ d ∷ []) output
+-- The same, at the very bytes.
+spread : (output station : List ℕ) → 4 ≤ length output
+    → take (min (length station) 4) station ++ drop (min (length station) 4) (replicate 4 blank ++ drop 4 output) ≡ over (padded station) output
 unfolding over
-four_over [] a b c d h = absurd (omega arith)
-four_over (w ∷ []) a b c d h = absurd (omega arith)
-four_over (w ∷ x ∷ []) a b c d h = absurd (omega arith)
-four_over (w ∷ x ∷ y ∷ []) a b c d h = absurd (omega arith)
-four_over (w ∷ x ∷ y ∷ z ∷ output) a b c d h = refl
+spread [] station h = absurd (omega arith)
+spread (w ∷ []) station h = absurd (omega arith)
+spread (w ∷ x ∷ []) station h = absurd (omega arith)
+spread (w ∷ x ∷ y ∷ []) station h = absurd (omega arith)
+spread (w ∷ x ∷ y ∷ z ∷ output) [] h = refl
+spread (w ∷ x ∷ y ∷ z ∷ output) (a ∷ []) h = refl
+spread (w ∷ x ∷ y ∷ z ∷ output) (a ∷ b ∷ []) h = refl
+spread (w ∷ x ∷ y ∷ z ∷ output) (a ∷ b ∷ c ∷ []) h = refl
+spread (w ∷ x ∷ y ∷ z ∷ output) (a ∷ b ∷ c ∷ d ∷ station) h =
+    let four : min (length (a ∷ b ∷ c ∷ d ∷ station)) 4 ≡ 4 = omega arith in
+    rw four refl
 
--- The bytes of a station, with a blank past its end.
-pub station_over : (output station : List ℕ) (a b c d : ℕ) → 4 ≤ length output
-    → a ≡ get_or station 0 blank → b ≡ get_or station 1 blank → c ≡ get_or station 2 blank → d ≡ get_or station 3 blank
-    → set (set (set (set output 0 a) 1 b) 2 c) 3 d ≡ over (padded station) output
-station_over output station a b c d h ea eb ec ed = four_over output a b c d h ∙ rw (ea, eb, ec, ed)
+-- Blanks, and the first four bytes of a station over them, or fewer where it has no more.
+pub station_over : (output station : List ℕ) {count : ℕ} {blanks bytes : List ℕ} → 4 ≤ length output → count ≡ min (length station) 4
+    → blanks ≡ replicate (length (take 4 output)) blank → bytes ≡ take count station
+    → bytes ++ drop count (blanks ++ drop 4 output) ≡ over (padded station) output
+station_over output station room few fill copy =
+    let four : length (take 4 output) ≡ 4 = simp length-take (omega arith) in
+    rw (copy, few, fill, four) (spread output station room)
 
 -- A text was written over the start of an output, and the rest of it is lent and comes back.
 module _ (xs d D : List ℕ) (a : ℕ) (is : D ≡ over xs d) (long : length xs ≡ a) where

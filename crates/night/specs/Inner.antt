@@ -2,14 +2,13 @@
 use Rattle.std.specs.Prelude.{ℕ, ◌+◌, ◌*◌, Bool, cond, ◌&&◌, List, eqb, leb, ltb, length}
 use Rattle.std.specs.Int.{w32, w64}
 use Rattle.std.proofs.Common.{to_z}
-use Rattle.refusal.specs.Paper.{paper, Answer, refused_by, given}
+use Rattle.refusal.specs.Paper.{paper, request, Answer, refused_by, given}
 use Rattle.refusal.specs.declared.Kind.TheVariants.{NoObservation, NotOptical, ListTooShort}
 use Rattle.element.specs.Form.{value_of}
 use Rattle.report.specs.Report.{row_limit}
-use Rattle.report.specs.Answers.{request}
 use Rattle.report.specs.Index.{Index, noted_value}
-use Rattle.night.specs.Record.{Fields, fields_from, spelt_at, fields_of, is_station, is_day, is_ascension, is_declination}
-use Rattle.night.specs.List.{record_size, record_at, record_count, Done, done, told}
+use Rattle.night.specs.Record.{Fields, fields_from, spelt_at, is_station, is_day, is_ascension, is_declination}
+use Rattle.night.specs.List.{record_size, Done, done}
 use Rattle.night.specs.declared.answer.Record.{Record}
 
 -- The fields of the observation that a row of an index notes.
@@ -50,8 +49,3 @@ abbrev pub is_within_numbers : Record → List ℕ → Bool
 is_within_numbers r station =
     leb 1 r.number && leb r.number row_limit && is_station station && is_day r.day && ltb r.microseconds 86400000000
     && is_ascension r.ra && is_declination r.dec
-
--- The fields of record n of a list whose records are right, or 16.
-abbrev pub record_in_answer : List ℕ → ℕ → Answer Record
-record_in_answer list n =
-    cond (leb 1 n && leb n (record_count list)) (given (told (fields_of (record_at n list)))) (refused_by (paper (request NoObservation)))

@@ -1,17 +1,14 @@
 -- A night list: records one after another. What writing a record answers and leaves, what a record means, and what the list's reader answers.
-use Rattle.std.specs.Prelude.{ℕ, zero, suc, ◌+◌, ◌-◌, ◌*◌, ◌/◌, ◌≡◌, Bool, not, cond, ◌&&◌, List, [], ◌++◌, eqb, leb, length, get_or, take, drop}
+use Rattle.std.specs.Prelude.{ℕ, zero, suc, ◌+◌, ◌-◌, ◌*◌, ◌/◌, ◌≡◌, Bool, not, cond, ◌&&◌, List, [], ◌++◌, eqb, leb, length, get_or, take, drop, Result, Ok, Err}
 use Rattle.text.specs.Output.{spelt, over}
-use Rattle.refusal.specs.Paper.{paper, Answer, refused_by, given}
+use Rattle.refusal.specs.Paper.{paper, request, Answer, refused_by, given}
 use Rattle.refusal.specs.declared.Kind.TheVariants.{NoObservation, NotOptical, ListTooShort, BadRecord}
 use Rattle.refusal.specs.declared.Refusal.{Refusal}
 use Rattle.element.specs.Observation.{is_radar}
 use Rattle.report.specs.Report.{Outcome, accepted, refused, read}
-use Rattle.report.specs.Answers.{is_observation, request}
+use Rattle.report.specs.Answers.{is_observation}
 use Rattle.night.specs.Record.{Fields, padded, record_of, fields_of, is_record}
 use Rattle.night.specs.declared.answer.Record.{Record}
-use Rattle.night.specs.declared.answer.Written.{Written}
-use Rattle.night.specs.declared.answer.Listed.{Listed}
-use Rattle.night.specs.declared.answer.Recorded.{Recorded}
 
 -- How many bytes a record has.
 abbrev pub record_size : ℕ
@@ -40,9 +37,9 @@ unfoldable pub list_with : ℕ → List ℕ → List ℕ → List ℕ
 list_with number bytes list = take (place_of number) list ++ over bytes (drop (place_of number) list)
 
 -- The answer to a writing: that it is done, or a refusal.
-abbrev pub written_paper : Written → Answer Done
-written_paper Written.Done = given done
-written_paper (Written.Refused x) = refused_by (paper x)
+abbrev pub written_paper : Result Unit Refusal → Answer Done
+written_paper (Ok x) = given done
+written_paper (Err x) = refused_by (paper x)
 
 -- Whether the record of observation n of a report is written to the list: the report's refusal, 16, 23 for a radar observation, 19, else done.
 abbrev pub written_answer : Outcome → ℕ → List ℕ → Answer Done
@@ -90,9 +87,9 @@ abbrev pub bad_record : ℕ → Refusal
 bad_record number = record { kind = BadRecord; line = 0; place = number }
 
 -- The answer to a check of a list: how many records, or a refusal.
-abbrev pub listed_paper : Listed → Answer ℕ
-listed_paper (Listed.Records n) = given n
-listed_paper (Listed.Refused x) = refused_by (paper x)
+abbrev pub listed_paper : Result ℕ Refusal → Answer ℕ
+listed_paper (Ok n) = given n
+listed_paper (Err x) = refused_by (paper x)
 
 -- How many records a list has, or 20 at its first bad one.
 unfoldable pub list_answer : List ℕ → Answer ℕ
@@ -110,9 +107,9 @@ told f = record {
 }
 
 -- The answer to a reading: the record's fields, or a refusal.
-abbrev pub recorded_paper : Recorded → Answer Record
-recorded_paper (Recorded.Is x) = given x
-recorded_paper (Recorded.Refused x) = refused_by (paper x)
+abbrev pub recorded_paper : Result Record Refusal → Answer Record
+recorded_paper (Ok x) = given x
+recorded_paper (Err x) = refused_by (paper x)
 
 -- The fields of record n of a list: 20 at its first bad record, 16 where it has no record n, else the fields.
 unfoldable pub record_answer : List ℕ → ℕ → Answer Record

@@ -5,7 +5,6 @@ pub mod answer;
 mod list;
 mod noted;
 mod record;
-mod signed;
 mod writing;
 
 // How many bytes a record has.
@@ -13,16 +12,17 @@ pub const RECORD_SIZE: usize = 40;
 
 ghost use Rattle.std.specs.Prelude.{◌≡◌};
 ghost use Rattle.report.specs.Report.{read as read_of};
-ghost use Rattle.night.specs.List.{written_paper, written_answer, list_after, bad_record, listed_paper, list_answer, recorded_paper, record_answer};
+ghost use Rattle.night.specs.List.{written_paper, written_answer, list_after, listed_paper, list_answer, recorded_paper, record_answer};
 
-use answer::{Listed, Recorded, Written};
+use answer::Record;
 use element::ELEMENTS;
-use list::{first_bad, record_count, record_in};
+use list::{first_bad, record_at};
+use record::record_of;
 use refusal::{Kind, Refusal};
 
 // Writes the record of an observation of a report at its place in the list, or says why nothing is written. It makes the lists for an index
 // of that one observation, with a row more for the reader's own use.
-pub fn write(report: &[u8], observation: usize, list: &mut [u8]) -> Written
+pub fn write(report: &[u8], observation: usize, list: &mut [u8]) -> Result<(), Refusal>
     ensures { (written_paper result ≡ written_answer (read_of report.now) observation list.old) × (list.new ≡ list_after (read_of report.now) observation list.old) }
 {
     let mut sets = [0u64; 2];
@@ -39,34 +39,26 @@ pub fn write(report: &[u8], observation: usize, list: &mut [u8]) -> Written
 }
 
 // How many records a list has, or its first bad one.
-pub fn check(list: &[u8]) -> Listed
+pub fn check(list: &[u8]) -> Result<usize, Refusal>
     ensures { listed_paper result ≡ list_answer list.now }
 {
-    let bad = first_bad(list);
-    if bad == 0 {
-        return Listed::Records(record_count(list));
+    match first_bad(list) {
+        None => Ok(list.len().div_ceil(RECORD_SIZE)),
+        Some(number) => Err(Refusal {
+            kind: Kind::BadRecord,
+            line: 0,
+            place: number,
+        }),
     }
-    Listed::Refused(bad_record(bad))
 }
 
 // What the record of a number holds, counted from 1, or why nothing is given.
-pub fn read(list: &[u8], number: usize) -> Recorded
+pub fn read(list: &[u8], number: usize) -> Result<Record, Refusal>
     ensures { recorded_paper result ≡ record_answer list.now number }
 {
-    let bad = first_bad(list);
-    if bad == 0 {
-        return record_in(list, number);
+    let count = check(list)?;
+    if number < 1 || count < number {
+        return Err(Refusal::of_request(Kind::NoObservation));
     }
-    Recorded::Refused(bad_record(bad))
-}
-
-// The refusal of a bad record, whose place is its number.
-fn bad_record(number: usize) -> Refusal
-    ensures { result ≡ bad_record number }
-{
-    Refusal {
-        kind: Kind::BadRecord,
-        line: 0,
-        place: number,
-    }
+    Ok(record_of(record_at(list, number)))
 }

@@ -8,7 +8,6 @@ ghost use Rattle.night.specs.List.{record_size, list_with, written_paper, writte
 ghost use Rattle.night.specs.Inner.{noted_fields, place_answer};
 
 use crate::RECORD_SIZE;
-use crate::answer::Written;
 use crate::writing::put_record;
 use element::form;
 use element::observation::is_radar;
@@ -34,26 +33,17 @@ pub(crate) fn write_with(
     starts: &mut [u16],
     lengths: &mut [u16],
     list: &mut [u8],
-) -> Written
+) -> Result<(), Refusal>
     requires { room_in sets.old starts.old lengths.old ≡ 1 }
     ensures { (written_paper result ≡ written_answer (read_of report.now) observation list.old) × (list.new ≡ list_after (read_of report.now) observation list.old) }
 {
-    let checked = index(report, row_of(observation), sets, starts, lengths);
-    match checked {
-        Checked::Refused(refusal) => {
-            return Written::Refused(refusal);
-        }
+    let row = observation.saturating_sub(1);
+    match index(report, row, sets, starts, lengths) {
+        Checked::Refused(refusal) => Err(refusal),
         Checked::Accepted(count) => {
-            return write_noted(report, sets, starts, lengths, count, observation, list);
+            write_noted(report, sets, starts, lengths, count, observation, list)
         }
     }
-}
-
-// The row of an observation, counted from 0; 0 for number 0.
-fn row_of(observation: usize) -> usize
-    ensures { result ≡ observation - 1 }
-{
-    if observation == 0 { 0 } else { observation - 1 }
 }
 
 // Writes the record of an observation, of so many, that the first row of an index notes.
@@ -65,48 +55,30 @@ fn write_noted(
     count: usize,
     observation: usize,
     list: &mut [u8],
-) -> Written
+) -> Result<(), Refusal>
     requires { AcceptedIs report.now (observation - 1) 1 (lent sets.now starts.now lengths.now) count × (0 < rows_in sets.now starts.now lengths.now) }
     ensures { (written_paper result ≡ written_answer (read_of report.now) observation list.old) × (list.new ≡ list_after (read_of report.now) observation list.old) }
 {
-    let answer = answer_at(count, is_radar(sets[0]), observation, list.len());
-    match answer {
-        Written::Refused(refusal) => {
-            return Written::Refused(refusal);
-        }
-        Written::Done => {
-            write_at(report, sets, starts, lengths, 0, observation, list);
-            return Written::Done;
-        }
-    }
+    answer_at(count, is_radar(sets[0]), observation, list.len())?;
+    write_at(report, sets, starts, lengths, 0, observation, list);
+    Ok(())
 }
 
 // What writing the record of a number answers, of a report of so many observations to a list of so many bytes, where the observation is radar
 // or not.
-fn answer_at(count: usize, radar: bool, number: usize, room: usize) -> Written
+fn answer_at(count: usize, radar: bool, number: usize, room: usize) -> Result<(), Refusal>
     ensures { written_paper result ≡ place_answer count radar number room }
 {
-    if (number < 1) | (count < number) {
-        return refused(Kind::NoObservation);
+    if number < 1 || count < number {
+        return Err(Refusal::of_request(Kind::NoObservation));
     }
     if radar {
-        return refused(Kind::NotOptical);
+        return Err(Refusal::of_request(Kind::NotOptical));
     }
     if room / RECORD_SIZE < number {
-        return refused(Kind::ListTooShort);
+        return Err(Refusal::of_request(Kind::ListTooShort));
     }
-    Written::Done
-}
-
-// The refusal of a request, which has line and place 0.
-fn refused(kind: Kind) -> Written
-    ensures { result ≡ Written.Refused (record { kind = kind; line = 0; place = 0 }) }
-{
-    Written::Refused(Refusal {
-        kind: kind,
-        line: 0,
-        place: 0,
-    })
+    Ok(())
 }
 
 // Writes the record of the observation that a row of an index notes at the place of a number, for which the list has room.

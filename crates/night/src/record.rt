@@ -7,8 +7,8 @@ ghost use Rattle.night.specs.Inner.{numbers_of, is_within_numbers, is_whole};
 
 use crate::RECORD_SIZE;
 use crate::answer::Record;
-use crate::signed::{of_bits, of_short_bits};
 use report::ROW_LIMIT;
+use std::ops::RangeBounds;
 use text::class::Class;
 use text::lines::trimmed;
 use text::output::low;
@@ -31,16 +31,12 @@ const SOUTH_POLE: i64 = -90000000000;
 const NORTH_POLE: i64 = 90000000000;
 
 // Whether bytes are a right record at the place of a number.
+#[tactic(auto, using(crate::proofs::TestLaws::test_is))]
 pub(crate) fn is_record(number: usize, bytes: &[u8]) -> bool
     ensures { result ≡ is_record number bytes.now }
 {
-    if is_whole(bytes) {
-        let fields = record_of(bytes);
-        if fields.number == number as u64 {
-            return is_within(fields, station_of(bytes));
-        }
-    }
-    false
+    let fields = record_of(bytes);
+    is_whole(bytes) && fields.number == number as u64 && is_within(fields, station_of(bytes))
 }
 
 // What a record's bytes hold, as numbers.
@@ -50,10 +46,10 @@ pub(crate) fn record_of(bytes: &[u8]) -> Record
     Record {
         number: number_at(bytes, 0, 4) + 1,
         station: number_at(bytes, 4, 4),
-        day: of_short_bits(number_at(bytes, 8, 4)),
+        day: i64::from((number_at(bytes, 8, 4) as u32).cast_signed()),
         microseconds: number_at(bytes, 12, 8),
-        ra: of_bits(number_at(bytes, 20, 8)),
-        dec: of_bits(number_at(bytes, 28, 8)),
+        ra: number_at(bytes, 20, 8).cast_signed(),
+        dec: number_at(bytes, 28, 8).cast_signed(),
     }
 }
 
@@ -69,7 +65,7 @@ fn number_at(bytes: &[u8], from: usize, count: usize) -> u64
 fn is_whole(bytes: &[u8]) -> bool
     ensures { result ≡ is_whole bytes.now }
 {
-    (bytes.len() == RECORD_SIZE) & (number_at(bytes, 36, 4) == 0)
+    bytes.len() == RECORD_SIZE && number_at(bytes, 36, 4) == 0
 }
 
 // The station of a record's bytes, without the blank after a three-letter one.
@@ -87,17 +83,24 @@ fn station_of(bytes: &[u8]) -> &[u8]
 fn is_within(fields: Record, station: &[u8]) -> bool
     ensures { result ≡ is_within_numbers fields station.now }
 {
-    let numbered = (1 <= fields.number) & (fields.number <= ROW_LIMIT as u64);
-    let timed = numbered & is_station(station) & is_day(fields.day) & (fields.microseconds < DAY);
-    timed & is_ascension(fields.ra) & is_declination(fields.dec)
+    1 <= fields.number
+        && fields.number <= ROW_LIMIT as u64
+        && is_station(station)
+        && is_day(fields.day)
+        && fields.microseconds < DAY
+        && is_ascension(fields.ra)
+        && is_declination(fields.dec)
 }
 
 // Whether a text is three or four alphanumerics with no blank at either end.
+#[tactic(auto, unfolding(crate::specs::Record::is_station))]
 fn is_station(text: &[u8]) -> bool
     ensures { result ≡ is_station text.now }
 {
-    let long = (3 <= text.len()) & (text.len() <= 4);
-    class::is_only(Class::Alphanumeric, text) & long & is_trimmed(text)
+    class::is_only(Class::Alphanumeric, text)
+        && 3 <= text.len()
+        && text.len() <= 4
+        && is_trimmed(text)
 }
 
 // Whether a text has no blank at either end.
@@ -109,31 +112,25 @@ fn is_trimmed(text: &[u8]) -> bool
 }
 
 // Whether a day is one of the years 0001 to 9999.
+#[tactic(auto, using(crate::proofs::DayLimits::first_is, crate::proofs::DayLimits::last_is), unfolding(crate::specs::Record::is_day))]
 fn is_day(day: i64) -> bool
     ensures { result ≡ is_day day }
 {
-    if day < FIRST_DAY {
-        return false;
-    }
-    day <= LAST_DAY
+    (FIRST_DAY..=LAST_DAY).contains(&day)
 }
 
 // Whether a right ascension lies from 0 to below 360 degrees.
+#[tactic(auto, unfolding(crate::specs::Record::is_ascension))]
 fn is_ascension(units: i64) -> bool
     ensures { result ≡ is_ascension units }
 {
-    if units < 0 {
-        return false;
-    }
-    units < FULL_CIRCLE
+    (0..FULL_CIRCLE).contains(&units)
 }
 
 // Whether a declination lies from -90 to 90 degrees.
+#[tactic(auto, unfolding(crate::specs::Record::is_declination))]
 fn is_declination(units: i64) -> bool
     ensures { result ≡ is_declination units }
 {
-    if units < SOUTH_POLE {
-        return false;
-    }
-    units <= NORTH_POLE
+    (SOUTH_POLE..=NORTH_POLE).contains(&units)
 }

@@ -5,7 +5,6 @@ ghost use Rattle.text.specs.Output.{over, low_bytes};
 ghost use Rattle.night.specs.Record.{fields_from, day_in, microseconds_in, units_in, padded, signed_bytes, record_bytes};
 ghost use Rattle.night.specs.List.{record_size};
 
-use crate::signed::bits_of;
 use text::output::put_low;
 use value::Value;
 
@@ -40,21 +39,9 @@ fn put_station(station: &[u8], output: &mut [u8])
     requires { 4 ≤ length output.old }
     ensures { output.new ≡ over (padded station.now) output.old }
 {
-    output[0] = byte_or_blank(station, 0);
-    output[1] = byte_or_blank(station, 1);
-    output[2] = byte_or_blank(station, 2);
-    output[3] = byte_or_blank(station, 3);
-}
-
-// The byte at an index, or a blank past the end.
-fn byte_or_blank(text: &[u8], index: usize) -> u8
-    ensures { result ≡ get_or text.now index blank }
-{
-    if index < text.len() {
-        text[index]
-    } else {
-        b' '
-    }
+    let count = station.len().min(4);
+    output[..4].fill(b' ');
+    output[..count].copy_from_slice(&station[..count]);
 }
 
 // Writes the day and the microseconds of a time.
@@ -62,7 +49,7 @@ fn put_time(time: Value, output: &mut [u8])
     requires { 12 ≤ length output.old }
     ensures { output.new ≡ over (signed_bytes 4 (day_in time) ++ low_bytes 8 (microseconds_in time)) output.old }
 {
-    put_low(bits_of(day_in(time)), 4, output);
+    put_low(day_in(time).cast_unsigned(), 4, output);
     put_low(microseconds_in(time), 8, &mut output[4..]);
 }
 
@@ -71,8 +58,8 @@ fn put_position(ra: Value, dec: Value, output: &mut [u8])
     requires { 20 ≤ length output.old }
     ensures { output.new ≡ over ((signed_bytes 8 (units_in ra) ++ signed_bytes 8 (units_in dec)) ++ low_bytes 4 0) output.old }
 {
-    put_low(bits_of(units_in(ra)), 8, output);
-    put_low(bits_of(units_in(dec)), 8, &mut output[8..]);
+    put_low(units_in(ra).cast_unsigned(), 8, output);
+    put_low(units_in(dec).cast_unsigned(), 8, &mut output[8..]);
     put_low(0, 4, &mut output[16..]);
 }
 

@@ -1,11 +1,10 @@
 -- `night::check` meets its contract.
+use native.Mathlib.Omega.{arith}
 use Rattle.night.proofs.TestLaws.{list_right, list_bad}
-use Rattle.refusal.specs.Paper.{paper, refused_by}
-use mathlib.Core.Path.{ap, ◌∙◌}
 use Rattle.night.proofs.check.Goals as goal
 
-pub returns-then-bad-eq0 : goal.returns-then-bad-eq0
-returns-then-bad-eq0 c = list_right _ c.first_bad-bad.ensures c.if-bad-eq0.true c.record_count.ensures
+pub returns-in-None : goal.returns-in-None
+returns-in-None c = list_right _ c.in-None.ensures (omega (arith, c.div_ceil.ensures))
 
-pub returns : goal.returns
-returns c = ap (λ x. refused_by (paper x)) c.bad_record.ensures ∙ list_bad _ c.first_bad-bad.ensures c.if-bad-eq0.false
+pub returns-in-Some : goal.returns-in-Some
+returns-in-Some c = list_bad _ c.in-Some.ensures

@@ -1,34 +1,33 @@
--- `night::list::first_bad` meets its contract. The invariant: the records before the number are right.
-use Rattle.night.proofs.ListLaws.{look_fits, look_less}
-use Rattle.night.proofs.ListLaws.{look_start, look_on, look_bad, look_end}
-use Rattle.night.specs.Record.{is_record}
-use native.Mathlib.Omega.{arith}
-use mathlib.Core.Path.{ap, sym, ◌∙◌}
+-- `night::list::first_bad` meets its contract.
+use Rattle.std.proofs.Common.{rules, sym, ◌∙◌}
+use Rattle.night.proofs.ListLaws.{look_start, look_end, look_on, look_bad, rest_is}
 use Rattle.night.proofs.list.first_bad.Goals as goal
 
-pub loop-number-init : goal.loop-number-init
-loop-number-init c = look_start _
+pub loop-index-init : goal.loop-index-init
+loop-index-init c = (search rules, tt, search rules, search rules, look_start _ _ (search rules))
 
-pub record_at-requires : goal.record_at-requires
-record_at-requires c = (c.loop-number.invariant.first, rw (← c.record_count-count.ensures) c.loop-number-test.true)
+pub returns-then-not-is_record : goal.returns-then-not-is_record
+returns-then-not-is_record c =
+    let steps = c.in-Some.ensures.steps in
+    let was = c.loop-index.invariant in
+    let long = rw was.2 at steps.0.1.1 in
+    let bad = rw steps.1 at (sym c.is_record.ensures ∙ c.if-not-is_record.true) in
+    rw steps.1 (look_bad _ _ was.4 _ was.3 _ _ steps.0.1.0 long steps.0.1.2 bad)
 
-pub overflow_add-number : goal.overflow_add-number
-overflow_add-number c = look_fits c.args.list.now _ c.loop-number.invariant (rw (← c.record_count-count.ensures) c.loop-number-test.true) (omega arith)
-
-pub loop-number-smaller : goal.loop-number-smaller
-loop-number-smaller c = look_less c.args.list.now _ c.loop-number.invariant (rw (← c.record_count-count.ensures) c.loop-number-test.true)
-
-pub loop-number-preserved : goal.loop-number-preserved
-loop-number-preserved c =
-    look_on _ _ c.loop-number.invariant
-    (rw (← c.record_count-count.ensures) c.loop-number-test.true)
-    (ap (is_record _) (sym c.record_at.ensures) ∙ (sym c.is_record.ensures ∙ c.if-is_record.true))
-
-pub returns-else-is_record : goal.returns-else-is_record
-returns-else-is_record c =
-    look_bad _ _ c.loop-number.invariant
-    (rw (← c.record_count-count.ensures) c.loop-number-test.true)
-    (ap (is_record _) (sym c.record_at.ensures) ∙ (sym c.is_record.ensures ∙ c.if-is_record.false))
+pub loop-index-preserved : goal.loop-index-preserved
+loop-index-preserved c =
+    let steps = c.in-Some.ensures.steps in
+    let was = c.loop-index.invariant in
+    let long = rw was.2 at steps.0.1.1 in
+    let right = rw steps.1 at (sym c.is_record.ensures ∙ c.if-not-is_record.false) in (
+      search rules,
+      tt,
+      steps.0.0 ∙ was.2,
+      rw steps.2 (rest_is _ _ was.4 _ was.3 _ _ steps.0.1.0 long steps.0.1.2),
+      rw steps.2 (look_on _ _ was.4 _ was.3 _ _ steps.0.1.0 long steps.0.1.2 right),
+    )
 
 pub returns : goal.returns
-returns c = look_end _ _ c.loop-number.invariant (rw (← c.record_count-count.ensures) c.loop-number-test.false)
+returns c =
+    let was = c.loop-index.invariant in
+    look_end _ _ was.4 _ was.3 c.in-None.ensures.steps.0.1.0
