@@ -5,27 +5,25 @@ use mathlib.Core.Bool.{Bool, true, false, cond}
 use mathlib.Core.List.{List, [], ◌∷◌}
 use lib.Dec.{eqb, ltb}
 use lib.ListN.{length}
-use native.Mathlib.Omega.{arith}
 use Rattle.text.specs.Lines.{Lines, end, cut, line, lines, fields, trim, printable}
 use Rattle.text.specs.Part.{same}
 use Rattle.text.proofs.Bools.{bools, never}
 use Rattle.refusal.specs.declared.Kind.TheVariants.{TextTooLong, NoLineEnd, WrongByte, VersionExpected, TooManyRows, FieldCountDiffers}
+use Rattle.std.specs.Prelude.{Result, Ok, Err}
+use Rattle.refusal.specs.declared.Kind.{Kind}
 use Rattle.refusal.specs.declared.Fault.{Fault}
-use Rattle.refusal.specs.declared.Fault.TheVariants.{Sound, At}
 use Rattle.element.specs.Form.{fault_of}
 use Rattle.element.specs.Observation.{Observation, observation_fault}
-use Rattle.element.specs.declared.form.Check.{Check}
-use Rattle.element.specs.declared.form.Check.TheVariants.{Fine, Bad}
 use Rattle.element.proofs.Before.{fault_before, fault_kept}
 use Rattle.report.specs.Report.{text_limit, row_limit, version_line, is_hash, State, Step, next, row, bad, columns_from, or_next, field_fault, row_of, row_unless, data_line, of_kind, opened, other, step, Outcome, accepted, refuse, more, at_end, after_row, after, read_from, begin, read}
 use Rattle.report.specs.declared.state.Need.{Need}
 use Rattle.report.proofs.Join.{refused≢accepted, more_accepted}
 
 -- The reader by a rule for the fault of a value. `reads_by` shows that it is `read`, by the rule that stands.
-module _ (fault : ℕ → List ℕ → Check) where
-  unfoldable pub field_fault_by : ℕ → List ℕ → List (List ℕ) → Fault
-  field_fault_by p [] fs = Sound
-  field_fault_by p (c ∷ cs) [] = Sound
+module _ (fault : ℕ → List ℕ → Result Unit Kind) where
+  unfoldable pub field_fault_by : ℕ → List ℕ → List (List ℕ) → Result Unit Fault
+  field_fault_by p [] fs = Ok tt
+  field_fault_by p (c ∷ cs) [] = Ok tt
   field_fault_by p (c ∷ cs) (f ∷ fs) = or_next (fault c (trim f)) p (field_fault_by (suc p) cs fs)
 
   unfoldable pub data_line_by : List ℕ → ℕ → List ℕ → Step
@@ -119,14 +117,14 @@ else_kept : (test : Bool) (first before now : Step) → (is_good before ≡ true
 else_kept true first before now h e = refl
 else_kept false first before now h e = h e
 
-row_kept : (before now held : Fault) (o : Observation) → (before ≡ Sound → now ≡ Sound) → is_good (row_unless before held o) ≡ true
+row_kept : (before now held : Result Unit Fault) (o : Observation) → (before ≡ Ok tt → now ≡ Ok tt) → is_good (row_unless before held o) ≡ true
     → row_unless now held o ≡ row_unless before held o
-row_kept Sound now held o h e = rw (h refl)
-row_kept (At k p) now held o h e = never e
+row_kept (Ok u) now held o h e = rw (h refl)
+row_kept (Err f) now held o h e = never e
 
-or_next_sound : (x : Check) (p : ℕ) (f : Fault) → or_next x p f ≡ Sound → (x ≡ Fine) × (f ≡ Sound)
-or_next_sound Fine p f e = (refl, e)
-or_next_sound (Bad k) p f e = absurd (let z : ◌≡◌ {A = ℕ} 0 1 = cc in omega arith)
+or_next_sound : (x : Result Unit Kind) (p : ℕ) (f : Result Unit Fault) → or_next x p f ≡ Ok tt → (x ≡ Ok tt) × (f ≡ Ok tt)
+or_next_sound (Ok u) p f e = (refl, e)
+or_next_sound (Err k) p f e = cc
 
 -- A line that leaves no refusal goes on, and so does what follows it.
 after_kept : (x y : Step) (n : ℕ) (old : State) (k : ℕ) (go go' : State → ℕ → Outcome) → (is_good x ≡ true → y ≡ x)
@@ -139,8 +137,8 @@ after_kept (row o) y n old k go go' h later os e =
 after_kept (bad kind p) y n old k go go' h later os e = absurd (refused≢accepted e)
 
 -- A reader that finds no fault in a value only where none stands: what it accepts is accepted.
-module _ (fault : ℕ → List ℕ → Check) (right : (index : ℕ) (text : List ℕ) → fault index text ≡ Fine → fault_of index text ≡ Fine) where
-  fields_kept : (p : ℕ) (cs : List ℕ) (fs : List (List ℕ)) → field_fault_by fault p cs fs ≡ Sound → field_fault p cs fs ≡ Sound
+module _ (fault : ℕ → List ℕ → Result Unit Kind) (right : (index : ℕ) (text : List ℕ) → fault index text ≡ Ok tt → fault_of index text ≡ Ok tt) where
+  fields_kept : (p : ℕ) (cs : List ℕ) (fs : List (List ℕ)) → field_fault_by fault p cs fs ≡ Ok tt → field_fault p cs fs ≡ Ok tt
   unfolding field_fault_by field_fault
   fields_kept p [] fs e = refl
   fields_kept p (c ∷ cs) [] e = refl

@@ -2,20 +2,22 @@
 use Prim.Native.Nat.{ℕ, zero, suc, ◌≤◌, ◌<◌, ◌+◌, ◌-◌}
 use mathlib.Core.Path.{◌≡◌, refl, ap, sym, ◌∙◌}
 use mathlib.Core.List.{List, [], ◌∷◌, ◌++◌}
-use mathlib.Core.Bool.{true, false, cond, true≢false}
-use lib.ListN.{length, take, drop, get_or, set, length-drop, length-set, drop_of_length-le, replicate}
-use lib.Seq.{drop-cons, length-take-le, drop-drop, take-suc-set, get_or-set_same, get_or-set_other}
-use lib.Dec.{eqb}
-use borrow.Author.Tests.{eq-eqb, ne_eqb, eqb-true, eqb-false, le-ltb, lt-ltb}
+use mathlib.Core.Bool.{Bool, true, false, cond, ◌||◌, true≢false}
+use lib.ListN.{length, take, drop, get_or, set, length-set, replicate}
+use lib.Seq.{length-take-le, take-suc-set, get_or-set_same, get_or-set_other}
+use lib.Dec.{eqb, ltb}
+use borrow.Author.Tests.{eq-eqb, eqb-true, eqb-false, le-ltb, lt-ltb, ltb-true, ltb-false}
 use native.Mathlib.Omega.{arith}
 use native.Mathlib.Numerals.{add-one}
-use Rattle.text.specs.Lines.{up_to, fields, trim, field_from, FieldAt}
+use Rattle.std.specs.Prelude.{Option, Some, None, Ok}
+use Rattle.std.specs.List.{list_any}
+use Rattle.text.specs.Lines.{fields, trim, field_from, FieldAt}
 use Rattle.text.proofs.Bools.{bools}
-use Rattle.text.proofs.LineLaws.{fields_more, fields_last, fields_first}
+use Rattle.report.proofs.FieldLaws.{Left, Split, split}
 use Rattle.refusal.specs.declared.Kind.TheVariants.{UnknownColumn, ColumnTwice}
-use Rattle.element.specs.Table.{elements, index_of}
+use Rattle.element.specs.Table.{elements, index_of, found_index}
 use Rattle.report.specs.Report.{columns_from, bad, member}
-use Rattle.report.specs.Inner.{NamedAs}
+use Rattle.report.specs.Inner.{NamedIs}
 use Rattle.report.specs.declared.state.Need.TheVariants as Need
 
 -- How many entries are not 0.
@@ -39,9 +41,9 @@ member_snoc x e [] h = (refl, λ q. true≢false (rw (eq-eqb e x q) at h))
 member_snoc x e (c ∷ cs) h =
     bools (eqb c x) (λ q. absurd (true≢false (rw q at h))) (λ q. let i = member_snoc x e cs (rw q at h) in (rw q i.0, i.1))
 
--- The loop: the columns so far; an element that they leave free has no mark, so that there is room for one column more.
-pub record Naming (l columns₀ columns : List ℕ) (a k : ℕ) : Type 0 where
-  pub at_most : a ≤ length l
+-- The loop: the columns so far, and the fields that are left; an element that the columns leave free has no mark, so that there is room for one
+-- column more.
+pub record Naming (l columns₀ columns : List ℕ) (parts a k : ℕ) : Type 0 where
   pub long : length columns ≡ length columns₀
   pub few : k ≤ elements
   pub marks : List ℕ
@@ -49,28 +51,75 @@ pub record Naming (l columns₀ columns : List ℕ) (a k : ℕ) : Type 0 where
   pub full : marked marks ≡ k
   pub free : (e : ℕ) → e < elements → member e (take k columns) ≡ false → get_or marks e 0 ≡ 0
   pub known : (j : ℕ) → j < k → get_or columns j 0 < elements
-  pub rest : columns_from [] (fields l) ≡ columns_from (take k columns) (fields (drop a l))
+  pub left : List (List ℕ)
+  pub count : k + length left ≡ parts
+  pub lies : Left l a left
+  pub rest : columns_from [] (fields l) ≡ columns_from (take k columns) left
 
-module _ {l columns₀ columns : List ℕ} {a k start size till : ℕ} (s : Naming l columns₀ columns a k) (f : FieldAt l a start size till)
-    (hc : elements ≤ length columns₀) {i : ℕ} (ie : i ≡ index_of (take (start + size - start) (drop start l))) where
-  is : index_of (trim (field_from l a)) ≡ i
-  is = let c : start + size - start ≡ size = omega arith in sym (ie ∙ rw (c, f.value))
+-- An index that is found, and one that is not.
+found_none : (n : ℕ) → found_index n ≡ None → elements ≤ n
+found_none n e = bools (ltb n elements) (λ q. let z : ◌≡◌ {A = Option ℕ} (Some n) None = rw q at e in cc) (λ q. ltb-false n elements q)
+
+found_some : (n i : ℕ) → found_index n ≡ Some i → (n ≡ i) × (i < elements)
+found_some n i e =
+    bools (ltb n elements)
+    (λ q.
+    let z : ◌≡◌ {A = Option ℕ} (Some n) (Some i) = rw q at e in
+    let w : n ≡ i = cc in
+    (w, rw (← w) (ltb-true n elements q)))
+    (λ q. let z : ◌≡◌ {A = Option ℕ} None (Some i) = rw q at e in cc)
+
+pub name_named : {l columns₀ columns : List ℕ} {parts a k : ℕ} → Naming l columns₀ columns parts a k → k ≡ parts
+    → NamedIs l columns (Ok (record { need = Need.Row; columns = parts; radar = false }))
+unfolding columns_from
+name_named s e =
+    let none : s.left ≡ [] = empty s.left (omega (arith, s.count)) in
+    rw (← e) (record { case = record { is = s.rest ∙ rw none; known = record { few = s.few; known = s.known } } })
+  where
+    empty : (fs : List (List ℕ)) → length fs ≡ 0 → fs ≡ []
+    empty [] h = refl
+    empty (f ∷ fs) h = absurd (omega arith)
+
+module _ {l columns₀ columns : List ℕ} {parts a k start size till : ℕ} (s : Naming l columns₀ columns parts a k) (b : k < parts)
+    (f : FieldAt l a start size till) (hc : elements ≤ length columns₀)
+    {r : Option ℕ} (ie : r ≡ found_index (index_of (take (start + size - start) (drop start l)))) where
+  lies : (a ≤ length l) × (s.left ≡ fields (drop a l))
+  lies = s.lies (omega (arith, s.count))
+
+  pub name_inside : start + size ≤ till × till ≤ length l
+  name_inside = (f.within, f.fits lies.0)
+
+  parted : Split l a till (fields (drop a l))
+  parted = split f lies.0
+
+  left_is : s.left ≡ field_from l a ∷ parted.others
+  left_is = lies.1 ∙ parted.is
+
+  name_is : r ≡ found_index (index_of (trim (field_from l a)))
+  name_is = let c : start + size - start ≡ size = omega arith in ie ∙ rw (c, f.value)
 
   seen_long : length (take k columns) ≡ k
   seen_long = length-take-le k columns (omega (arith, s.long, s.few))
 
-  pub name_unknown : elements ≤ i → columns_from [] (fields l) ≡ bad UnknownColumn (k + 1)
+  pub name_unknown : r ≡ None → columns_from [] (fields l) ≡ bad UnknownColumn (k + 1)
   unfolding columns_from
-  name_unknown h = s.rest ∙ rw ((fields_first (drop a l)).1, is, le-ltb _ _ h, seen_long, add-one)
+  name_unknown e =
+      s.rest ∙ rw (left_is, le-ltb (index_of (trim (field_from l a))) elements (found_none _ (sym name_is ∙ e)), seen_long, add-one)
 
-  module _ (h : i < elements) where
+  module _ {i : ℕ} (e : r ≡ Some i) where
+    is : index_of (trim (field_from l a)) ≡ i
+    is = (found_some _ i (sym name_is ∙ e)).0
+
+    pub h : i < elements
+    h = (found_some _ i (sym name_is ∙ e)).1
+
     pub name_twice : true ≡ member i (take k columns) → columns_from [] (fields l) ≡ bad ColumnTwice (k + 1)
     unfolding columns_from
-    name_twice m = s.rest ∙ rw ((fields_first (drop a l)).1, is, lt-ltb _ _ h, ← m, seen_long, add-one)
+    name_twice m = s.rest ∙ rw (left_is, is, lt-ltb _ _ h, ← m, seen_long, add-one)
 
     module _ (m : false ≡ member i (take k columns)) where
       gone : marked (set s.marks i 1) ≡ suc k
-      gone = marked_set s.marks i (omega (arith, s.wide)) (s.free i h (sym m)) ∙ ap suc s.full
+      gone = marked_set s.marks i (omega (arith, s.wide, h)) (s.free i h (sym m)) ∙ ap suc s.full
 
       pub name_room : k < elements
       name_room = omega (arith, gone, marked_le (set s.marks i 1), length-set s.marks i 1, s.wide)
@@ -84,38 +133,26 @@ module _ {l columns₀ columns : List ℕ} {a k start size till : ℕ} (s : Nami
           (λ q. let e : j ≡ k = eqb-true j k q in rw (e, get_or-set_same columns k i 0 (omega (arith, name_room, s.long))) h)
           (λ q. let n = eqb-false j k q in rw (get_or-set_other columns k j i 0 n) (s.known j (omega (arith, n))))
 
-      pub name_found : till ≡ length l → NamedAs l (set columns k i) (record { need = Need.Row; columns = k + 1; radar = false })
+      pub name_on : Naming l columns₀ (set columns k i) parts (till + 1) (k + 1)
       unfolding columns_from
-      name_found t =
-          let u : up_to 124 (drop a l) ≡ length (drop a l) = omega (arith, f.till_is, s.at_most, length-drop a l) in
-          record {
-            is = s.rest ∙ rw (fields_last (drop a l) u, is, lt-ltb _ _ h, ← m, snoc);
-            known = record { few = omega (arith, name_room); known = known_on };
-          }
+      name_on = record {
+        long = simp length-set s.long;
+        few = omega (arith, name_room);
+        marks = set s.marks i 1;
+        wide = simp length-set s.wide;
+        full = rw add-one gone;
+        free = λ e b q.
+            let p = member_snoc e i (take k columns) (rw snoc at q) in
+            get_or-set_other s.marks i e 1 0 (λ z. p.1 (sym z)) ∙ s.free e b p.0;
+        known = known_on;
+        left = parted.others;
+        count = omega (arith, s.count, ap length left_is);
+        lies = parted.after;
+        rest = s.rest ∙ (ap (λ (fs : List (List ℕ)). columns_from (take k columns) fs) left_is ∙ rw (is, lt-ltb _ _ h, ← m, snoc));
+      }
 
-      pub name_on : (till ≡ length l → ⊥) → Naming l columns₀ (set columns k i) (till + 1) (k + 1)
-      unfolding columns_from
-      name_on t =
-          let u : up_to 124 (drop a l) < length (drop a l) = omega (arith, f.till_is, f.fits s.at_most, s.at_most, length-drop a l) in
-          let d : a + suc (up_to 124 (drop a l)) ≡ till + 1 = omega (arith, f.till_is) in
-          let fm : fields (drop a l) ≡ field_from l a ∷ fields (drop (till + 1) l) = fields_more (drop a l) u ∙ rw (drop-drop, d) in
-          record {
-            at_most = omega (arith, f.fits s.at_most);
-            long = simp length-set s.long;
-            few = omega (arith, name_room);
-            marks = set s.marks i 1;
-            wide = simp length-set s.wide;
-            full = rw add-one gone;
-            free = λ e b q.
-                let p = member_snoc e i (take k columns) (rw snoc at q) in
-                get_or-set_other s.marks i e 1 0 (λ z. p.1 (sym z)) ∙ s.free e b p.0;
-            known = known_on;
-            rest = s.rest ∙ rw (fm, is, lt-ltb _ _ h, ← m, snoc);
-          }
-
-pub name_start : (l columns : List ℕ) → Naming l columns columns 0 0
-name_start l columns = record {
-  at_most = omega arith;
+pub name_start : (l columns : List ℕ) {parts : ℕ} → parts ≡ length (fields l) → Naming l columns columns parts 0 0
+name_start l columns e = record {
   long = refl;
   few = omega arith;
   marks = replicate elements 0;
@@ -123,6 +160,9 @@ name_start l columns = record {
   full = refl;
   free = λ e b q. zeros elements e;
   known = λ j b. absurd (omega arith);
+  left = fields l;
+  count = omega (arith, e);
+  lies = λ h. (omega arith, refl);
   rest = refl;
 }
   where
@@ -132,12 +172,6 @@ name_start l columns = record {
     zeros (suc n) (suc e) = zeros n e
 
 -- The search among the columns.
-module _ (e : ℕ) (columns : List ℕ) (i : ℕ) (inv : member e columns ≡ member e (drop i columns)) where
-  pub member_here : i < length columns → get_or columns i 0 ≡ e → true ≡ member e columns
-  member_here h q = sym (inv ∙ rw (drop-cons columns i 0 h, eq-eqb _ _ q))
-
-  pub member_on : i < length columns → (get_or columns i 0 ≡ e → ⊥) → member e columns ≡ member e (drop (i + 1) columns)
-  member_on h n = inv ∙ rw (add-one, drop-cons columns i 0 h, ne_eqb _ _ n)
-
-  pub member_end : length columns ≤ i → false ≡ member e columns
-  member_end h = sym (inv ∙ rw (drop_of_length-le columns h))
+pub member_is : (e : ℕ) (columns : List ℕ) → list_any (λ c. eqb c e) columns ≡ member e columns
+member_is e [] = refl
+member_is e (c ∷ cs) = ap (λ (b : Bool). eqb c e || b) (member_is e cs)

@@ -12,8 +12,8 @@ use Rattle.text.specs.Part.{same}
 use Rattle.text.specs.Lines.{Lines, end, cut, line, lines, onto, fields, printable}
 use Rattle.text.proofs.Bools.{bools}
 use Rattle.refusal.specs.declared.Kind.{Kind}
+use Rattle.std.specs.Prelude.{Result, Ok, Err}
 use Rattle.refusal.specs.declared.Fault.{Fault}
-use Rattle.refusal.specs.declared.Fault.TheVariants.{Sound, At}
 use Rattle.refusal.specs.declared.Refusal.{Refusal}
 use Rattle.element.specs.Observation.{Observation, is_radar, observation_fault}
 use Rattle.report.specs.declared.state.Need.{Need}
@@ -80,10 +80,10 @@ data_next columns k l s h =
     (λ b. bad≢next (rw (a, b) at h)))
     (λ a. bad≢next (rw a at h))
   where
-    unless : (f g : Fault) (o : Observation) → row_unless f g o ≡ next s → ⊥
-    unless (At k p) g o h = bad≢next h
-    unless Sound (At k p) o h = bad≢next h
-    unless Sound Sound o h = next≢row (sym h)
+    unless : (f g : Result Unit Fault) (o : Observation) → row_unless f g o ≡ next s → ⊥
+    unless (Err f) g o h = bad≢next h
+    unless (Ok u) (Err g) o h = bad≢next h
+    unless (Ok u) (Ok v) o h = next≢row (sym h)
 
 data_row : (columns : List ℕ) (k j : ℕ) (l : List ℕ) (o : Observation) → data_line columns k l ≡ row o → j < row_limit → data_line columns j l ≡ row o
 unfolding data_line

@@ -2,6 +2,7 @@ pub mod AnswerLaws
 pub mod Before
 pub mod ColumnLaws
 pub mod Computed
+pub mod FieldLaws
 pub mod IndexLaws
 pub mod Join
 pub mod LineSteps

@@ -1,19 +1,22 @@
 -- Laws of a line: what it comes to, by each way that it can be taken.
 use Prim.Native.Nat.{ℕ, ◌<◌}
-use mathlib.Core.Path.{◌≡◌, refl, ap, sym, subst}
+use mathlib.Core.Path.{◌≡◌, refl, ap, sym, subst, ◌∙◌}
+use mathlib.Core.Logic.{◌⊎◌, inl, inr}
 use mathlib.Core.List.{List, [], ◌∷◌}
 use mathlib.Core.Bool.{Bool, true, false}
 use lib.Dec.{eqb}
 use lib.ListN.{length, get_or, take}
 use lib.Seq.{length-take-le, get_or-take}
 use native.Mathlib.Omega.{arith}
+use Rattle.std.specs.Prelude.{Option, Result, Ok, Err}
 use Rattle.text.specs.Lines.{fields, printable}
 use Rattle.text.specs.Part.{same}
-use Rattle.refusal.specs.declared.Kind.{Kind}
+use Rattle.refusal.specs.Paper.{at}
+use Rattle.refusal.specs.declared.Fault.{Fault}
 use Rattle.refusal.specs.declared.Kind.TheVariants.{WrongByte, VersionExpected}
-use Rattle.report.specs.Report.{Step, bad, is_hash, version_line, columns_from, data_line, opened, other, step}
+use Rattle.report.specs.Report.{Step, next, bad, is_hash, version_line, columns_from, data_line, opened, other, step}
 use Rattle.report.specs.Index.{Index}
-use Rattle.report.specs.Inner.{between, Known, NamedCase, NamedIs, RowAsks, RowCase, RowIs, LineAsks, LineCase, TookLine, step_at, other_at, opened_to, after_rows}
+use Rattle.report.specs.Inner.{between, state_of, Known, NamedIs, RowAsks, RowIs, LineAsks, TookLine, step_at, other_at, opened_to, rows_of, after_rows}
 use Rattle.report.specs.declared.state.Need.{Need}
 use Rattle.report.specs.declared.state.State.{State as CodeState}
 use Rattle.report.specs.declared.state.Taken.{Taken}
@@ -26,36 +29,45 @@ pub hash_some : (l : List ℕ) → (length l ≡ 0 → ⊥) → eqb (get_or l 0 
 hash_some [] n = absurd (n refl)
 hash_some (b ∷ l) n = refl
 
--- A column line, where one is due.
-pub line_columns : {t columns columns' : List ℕ} {x : Index} {from till slot k : ℕ} {s : CodeState} {r : Taken} → s.need ≡ Need.Columns
-    → NamedIs (between t from till) columns' r → TookLine t columns columns' x x from till slot k s (other_at t from till s columns k) r
-line_columns {t} {columns} {columns'} {x} {from} {till} {slot} {k} {s} {r} e h =
-    let due : columns_from [] (fields (between t from till)) ≡ other_at t from till s columns k =
-    sym (ap (λ (need : Need). other need (take s.columns columns) s.radar k (between t from till)) e) in
-    record { case = subst (λ (taken : Step). LineCase t columns columns' x x from till slot k s taken r) due (go r h.case) }
-  where
-    go : (r : Taken) → NamedCase (between t from till) columns' r
-        → LineCase t columns columns' x x from till slot k s (columns_from [] (fields (between t from till))) r
-    go (Taken.Next s') h = record { is = h.is; known = h.known; same = refl }
-    go (Taken.Noted radar) h = absurd h
-    go (Taken.Refused kind p) h = h
+-- A line that does not begin with `#`, by what the block needs.
+module _ {need : Need} (columns : List ℕ) (radar : Bool) (k : ℕ) (l : List ℕ) where
+  pub due_version : need ≡ Need.Version → other need columns radar k l ≡ bad VersionExpected 0
+  due_version e = ap (λ (n : Need). other n columns radar k l) e
 
--- A data line, where one may stand.
-pub line_row : {t columns : List ℕ} {x y : Index} {from till slot k : ℕ} {s : CodeState} {first : Bool} {r : Taken}
-    → other s.need (take s.columns columns) s.radar k (between t from till)
-    ≡ after_rows first s.radar (data_line (take s.columns columns) k (between t from till))
-    → RowIs t (take s.columns columns) x y from till slot k first s.radar r → TookLine t columns columns x y from till slot k s (other_at t from till s columns k) r
-line_row {t} {columns} {x} {y} {from} {till} {slot} {k} {s} {first} {r} e h = record { case = rw e (go r h.case) }
-  where
-    go : (r : Taken) → RowCase t (take s.columns columns) x y from till slot k first s.radar r
-        → LineCase t columns columns x y from till slot k s (after_rows first s.radar (data_line (take s.columns columns) k (between t from till))) r
-    go (Taken.Next s') h = absurd h
-    go (Taken.Noted radar) h = record { got = h.got; is = h.is; kind_is = h.kind_is; few = h.few; noted = h.noted; kept = h.kept; same = refl }
-    go (Taken.Refused kind p) h = h
+  due_columns : need ≡ Need.Columns → other need columns radar k l ≡ columns_from [] (fields l)
+  due_columns e = ap (λ (n : Need). other n columns radar k l) e
+
+  pub due_rows : (need ≡ Need.Row) ⊎ (need ≡ Need.Nothing) → {before : Option Bool} → before ≡ rows_of need radar
+      → other need columns radar k l ≡ after_rows before (data_line columns k l)
+  due_rows (inl e) b = rw (b, e)
+  due_rows (inr e) b = rw (b, e)
+
+-- A column line, where one is due.
+module _ {t columns columns' : List ℕ} {x : Index} {from till slot k : ℕ} {s : CodeState} {r : Result CodeState Fault} (due : s.need ≡ Need.Columns)
+    (h : NamedIs (between t from till) columns' r) where
+  pub line_columns : {s' : CodeState} → r ≡ Ok s' → TookLine t columns columns' x x from till slot k s (other_at t from till s columns k) (Ok (Taken.Next s'))
+  line_columns e =
+      let n = rw e at h.case in
+      record { case = record { is = due_columns (take s.columns columns) s.radar k (between t from till) due ∙ n.is; known = n.known; same = refl } }
+
+  pub line_unnamed : {f : Fault} → r ≡ Err f → TookLine t columns columns' x x from till slot k s (other_at t from till s columns k) (Err f)
+  line_unnamed e = record { case = due_columns (take s.columns columns) s.radar k (between t from till) due ∙ rw e at h.case }
+
+-- A data line, where one may stand: after a column line, or after rows of the block.
+module _ {t columns : List ℕ} {x y : Index} {from till slot k : ℕ} {s : CodeState} {before : Option Bool}
+    (due : other_at t from till s columns k ≡ after_rows before (data_line (take s.columns columns) k (between t from till)))
+    {r : Result Bool Fault} (h : RowIs t (take s.columns columns) x y from till slot k before r) where
+  pub line_row : {radar : Bool} → r ≡ Ok radar → TookLine t columns columns x y from till slot k s (other_at t from till s columns k) (Ok (Taken.Noted radar))
+  line_row e =
+      let n = rw e at h.case in
+      record { case = record { got = n.got; is = due ∙ n.is; kind_is = n.kind_is; few = n.few; noted = n.noted; kept = n.kept; same = refl } }
+
+  pub line_no_row : {f : Fault} → r ≡ Err f → TookLine t columns columns x y from till slot k s (other_at t from till s columns k) (Err f)
+  line_no_row e = record { case = due ∙ rw e at h.case }
 
 -- A refusal.
-pub line_bad : {t columns columns' : List ℕ} {x y : Index} {from till slot k : ℕ} {s : CodeState} {taken : Step} {kind : Kind} {p : ℕ}
-    → taken ≡ bad kind p → TookLine t columns columns' x y from till slot k s taken (Taken.Refused kind p)
+pub line_bad : {t columns columns' : List ℕ} {x y : Index} {from till slot k : ℕ} {s : CodeState} {taken : Step} {f : Fault}
+    → taken ≡ bad f.kind f.place → TookLine t columns columns' x y from till slot k s taken (Err f)
 line_bad e = record { case = e }
 
 pub row_asks : {t columns : List ℕ} {x : Index} {from till parts slot : ℕ} {s : CodeState} → LineAsks t columns x from till parts slot s
@@ -72,45 +84,46 @@ row_asks {columns = columns} {s = s} a =
       known = λ j b. let b' : j < s.columns = omega arith in rw (get_or-take s.columns columns j 0 b') (a.known.known j b');
     }
 
+-- What a right version line comes to.
+abbrev Opened : List ℕ → Need → Result CodeState Fault → Type 0
+Opened columns need (Ok s) = (opened need ≡ next (state_of s columns)) × Known s columns
+Opened columns need (Err f) = opened need ≡ bad f.kind f.place
+
+opens : (columns : List ℕ) (need : Need) → Opened columns need (opened_to need)
+opens columns Need.Version = (refl, record { few = omega arith; known = λ j b. absurd (omega arith) })
+opens columns Need.Columns = refl
+opens columns Need.Row = refl
+opens columns Need.Nothing = (refl, record { few = omega arith; known = λ j b. absurd (omega arith) })
+
 -- A whole line: 3; 4 for a `#` line that isn't the version line; a right version line; another line.
 module _ {t columns : List ℕ} {x : Index} {from till slot k : ℕ} {s : CodeState} where
-  pub line_byte : false ≡ printable (between t from till) → TookLine t columns columns x x from till slot k s (step_at t from till s columns k) (Taken.Refused WrongByte 0)
+  pub line_byte : false ≡ printable (between t from till) → TookLine t columns columns x x from till slot k s (step_at t from till s columns k) (Err (at WrongByte 0))
   unfolding step
   line_byte p = record { case = rw (← p) }
 
   module _ (p : true ≡ printable (between t from till)) where
     pub line_hash : true ≡ is_hash (between t from till) → false ≡ same (between t from till) version_line
-        → TookLine t columns columns x x from till slot k s (step_at t from till s columns k) (Taken.Refused VersionExpected 0)
+        → TookLine t columns columns x x from till slot k s (step_at t from till s columns k) (Err (at VersionExpected 0))
     unfolding step
     line_hash h q = record { case = rw (← p, ← h, ← q) }
 
-    pub line_open : true ≡ is_hash (between t from till) → true ≡ same (between t from till) version_line
-        → {r : Taken} → r ≡ opened_to s.need → TookLine t columns columns x x from till slot k s (step_at t from till s columns k) r
-    unfolding step
-    line_open h q {r} e = record { case = rw (← p, ← h, ← q) (go s.need r e) }
-      where
-        none : Known (record { need = Need.Columns; columns = 0; radar = false }) columns
-        none = record { few = omega arith; known = λ j b. absurd (omega arith) }
+    module _ (h : true ≡ is_hash (between t from till)) (q : true ≡ same (between t from till) version_line) {r : Result CodeState Fault} (e : r ≡ opened_to s.need) where
+      pub line_open : {s' : CodeState} → r ≡ Ok s' → TookLine t columns columns x x from till slot k s (step_at t from till s columns k) (Ok (Taken.Next s'))
+      unfolding step
+      line_open {s'} o =
+          let z : opened_to s.need ≡ Ok s' = sym e ∙ o in
+          let n = subst (λ (o : Result CodeState Fault). Opened columns s.need o) z (opens columns s.need) in
+          record { case = rw (← p, ← h, ← q) (record { is = n.0; known = n.1; same = refl }) }
 
-        go : (need : Need) (r : Taken) → r ≡ opened_to need → LineCase t columns columns x x from till slot k s (opened need) r
-        go Need.Version r e = rw e (record { is = refl; known = none; same = refl })
-        go Need.Columns r e = rw e refl
-        go Need.Row r e = rw e refl
-        go Need.Nothing r e = rw e (record { is = refl; known = none; same = refl })
+      pub line_closed : {f : Fault} → r ≡ Err f → TookLine t columns columns x x from till slot k s (step_at t from till s columns k) (Err f)
+      unfolding step
+      line_closed {f} o =
+          let z : opened_to s.need ≡ Err f = sym e ∙ o in
+          let n = subst (λ (o : Result CodeState Fault). Opened columns s.need o) z (opens columns s.need) in
+          record { case = rw (← p, ← h, ← q) n }
 
-    pub line_other : false ≡ is_hash (between t from till) → {columns' : List ℕ} {y : Index} {r : Taken}
+    pub line_other : false ≡ is_hash (between t from till) → {columns' : List ℕ} {y : Index} {r : Result Taken Fault}
         → TookLine t columns columns' x y from till slot k s (other_at t from till s columns k) r
         → TookLine t columns columns' x y from till slot k s (step_at t from till s columns k) r
     unfolding step
     line_other h took = record { case = rw (← p, ← h) took.case }
-
--- A line that does not begin with `#`, by what the block needs.
-module _ {need : Need} (columns : List ℕ) (radar : Bool) (k : ℕ) (l : List ℕ) where
-  pub due_version : need ≡ Need.Version → other need columns radar k l ≡ bad VersionExpected 0
-  due_version e = ap (λ (n : Need). other n columns radar k l) e
-
-  pub due_row : need ≡ Need.Row → other need columns radar k l ≡ after_rows true radar (data_line columns k l)
-  due_row e = ap (λ (n : Need). other n columns radar k l) e
-
-  pub due_nothing : need ≡ Need.Nothing → other need columns radar k l ≡ after_rows false radar (data_line columns k l)
-  due_nothing e = ap (λ (n : Need). other n columns radar k l) e

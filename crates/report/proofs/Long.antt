@@ -8,8 +8,8 @@ use lib.ListN.{length, set, replicate, length-set, length-replicate}
 use Rattle.text.specs.Part.{same}
 use Rattle.text.specs.Lines.{Lines, end, cut, line, lines, fields, trim, printable}
 use Rattle.text.proofs.Bools.{bools}
+use Rattle.std.specs.Prelude.{Result, Ok, Err}
 use Rattle.refusal.specs.declared.Fault.{Fault}
-use Rattle.refusal.specs.declared.Fault.TheVariants.{Sound, At}
 use Rattle.element.specs.Table.{elements, index_of}
 use Rattle.element.specs.Observation.{Observation, is_present, is_radar, observation_fault}
 use Rattle.report.specs.declared.state.Need.{Need}
@@ -45,10 +45,10 @@ fill_length (c ∷ cs) (f ∷ fs) o =
 pub row_long : (columns : List ℕ) (fs : List (List ℕ)) → length (row_of columns fs) ≡ elements
 row_long columns fs = fill_length columns fs (replicate elements []) ∙ length-replicate {A = List ℕ} elements []
 
-unless_long : (f g : Fault) (o : Observation) → length o ≡ elements → LongStep (row_unless f g o)
-unless_long (At k p) g o h = tt
-unless_long Sound (At k p) o h = tt
-unless_long Sound Sound o h = h
+unless_long : (f g : Result Unit Fault) (o : Observation) → length o ≡ elements → LongStep (row_unless f g o)
+unless_long (Err f) g o h = tt
+unless_long (Ok u) (Err g) o h = tt
+unless_long (Ok u) (Ok v) o h = h
 
 data_long : (columns : List ℕ) (k : ℕ) (l : List ℕ) → LongStep (data_line columns k l)
 unfolding data_line

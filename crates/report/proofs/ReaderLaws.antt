@@ -9,10 +9,12 @@ use lib.Seq.{drop-drop, get_or-append-add}
 use borrow.Author.Tests.{le-ltb, lt-ltb, le-leb, leb-true, ltb-true, ltb-false, eqb-true, eqb-false}
 use native.Mathlib.Omega.{arith}
 use native.Mathlib.Numerals.{add-one}
+use Rattle.std.specs.Prelude.{Result, Ok, Err}
 use Rattle.text.specs.Lines.{cut, line, lines, up_to, first_line, printable, fields, ScannedIs}
 use Rattle.text.proofs.Bools.{bools}
 use Rattle.text.proofs.LineLaws.{up_to_le, first_line_lem, lines_line, lines_cut, rest_of}
-use Rattle.refusal.specs.declared.Kind.{Kind}
+use Rattle.refusal.specs.Paper.{on_line}
+use Rattle.refusal.specs.declared.Fault.{Fault}
 use Rattle.refusal.specs.declared.Kind.TheVariants.{TextTooLong, NoLineEnd}
 use Rattle.refusal.specs.declared.Refusal.{Refusal}
 use Rattle.element.specs.Table.{elements}
@@ -21,7 +23,6 @@ use Rattle.report.specs.Report.{bad, Outcome, accepted, refused, more, at_end, a
 use Rattle.report.specs.Starts.{starts_after, starts_from, starts_in, starts_of}
 use Rattle.report.specs.Index.{Index, Noted, AcceptedIs, IndexCase, IndexIs}
 use Rattle.report.specs.Inner.{between, state_of, Known, Room, KeptBut, NextIs, RowTaken, LineAsks, TookLine, step_at, slot_of, checked_at}
-use Rattle.report.specs.declared.answer.Checked.{Checked}
 use Rattle.report.specs.declared.state.Need.{Need}
 use Rattle.report.specs.declared.state.State.{State as CodeState}
 use Rattle.report.specs.declared.state.Taken.{Taken}
@@ -51,8 +52,8 @@ read_short : (t : List ℕ) → length t ≤ text_limit → read t ≡ read_from
 unfolding read
 read_short t h = rw (le-ltb text_limit (length t) h)
 
-pub read_long : {t : List ℕ} {first room : ℕ} {x : Index} {r : Checked} → text_limit < length t
-    → r ≡ Checked.Refused (record { kind = TextTooLong; line = 0; place = 0 }) → IndexIs t first room x r
+pub read_long : {t : List ℕ} {first room : ℕ} {x : Index} {r : Result ℕ Refusal} → text_limit < length t
+    → r ≡ Err (record { kind = TextTooLong; line = 0; place = 0 }) → IndexIs t first room x r
 unfolding read
 read_long {t} h e = record { case = rw (e, lt-ltb text_limit (length t) h) }
 
@@ -156,7 +157,7 @@ module _ {t columns : List ℕ} {first room : ℕ} {x₀ x : Index} {at number k
     noted = λ i a b. rw (spots_end h) (v.noted i a b);
   }
 
-  pub read_ends : length t ≤ at → {r : Checked} → r ≡ checked_at s.need number k → IndexIs t first room x r
+  pub read_ends : length t ≤ at → {r : Result ℕ Refusal} → r ≡ checked_at s.need number k → IndexIs t first room x r
   read_ends h {r} e = record { case = rw e (go s.need refl) }
     where
       go : (need : Need) → s.need ≡ need → IndexCase t first room x (checked_at need number k)
@@ -170,7 +171,7 @@ module _ {t columns : List ℕ} {first room : ℕ} {x₀ x : Index} {at number k
     size_is = c.size_is ∙ ap (λ (l : List ℕ). up_to 10 l) (rest_of t at v.at_most)
 
     -- bytes with no LF after them
-    pub read_cut : at + size ≡ length t → {r : Checked} → r ≡ Checked.Refused (record { kind = NoLineEnd; line = number; place = 0 }) → IndexIs t first room x r
+    pub read_cut : at + size ≡ length t → {r : Result ℕ Refusal} → r ≡ Err (record { kind = NoLineEnd; line = number; place = 0 }) → IndexIs t first room x r
     unfolding read_from
     read_cut q e =
         let g = lines_cut_off (drop at t) (omega (arith, length-drop at t)) (omega (arith, size_is, length-drop at t)) in
@@ -229,17 +230,18 @@ module _ {t columns : List ℕ} {first room : ℕ} {x₀ x : Index} {at number k
       unfolding starts_from
       on_starts = v.left ∙ rw (split, line_long)
 
-      module _ {columns' : List ℕ} {y : Index} {slot : ℕ} {r : Taken} (took : TookLine t columns columns' x y at (at + size) slot k s (step_at t at (at + size) s columns k) r) where
-        pub read_bad : {kind : Kind} {p : ℕ} → r ≡ Taken.Refused kind p → {a : Checked} → a ≡ Checked.Refused (record { kind = kind; line = number; place = p }) → IndexIs t first room y a
-        read_bad {kind} {p} e g =
-            let b : step_at t at (at + size) s columns k ≡ bad kind p = rw e at took.case in
+      module _ {columns' : List ℕ} {y : Index} {slot : ℕ} {r : Result Taken Fault} (took : TookLine t columns columns' x y at (at + size) slot k s (step_at t at (at + size) s columns k) r) where
+        pub read_bad : {f : Fault} → r ≡ Err f → {z : Refusal} → z ≡ on_line number f → IndexIs t first room y (Err z)
+        read_bad {f} e g =
+            let b : step_at t at (at + size) s columns k ≡ bad f.kind f.place = rw e at took.case in
             record { case = rw g (read_short t v.short ∙ (on ∙ rw b (prefix_refused v.rows _))) }
 
         module _ (wide : length columns' ≡ length columns) (ls : length y.sets ≡ length x.sets)
             (lt : length y.starts ≡ length x.starts) (ll : length y.lengths ≡ length x.lengths) where
-          pub read_next : {s' : CodeState} → r ≡ Taken.Next s' → Reading t columns' first room x₀ y (at + size + 1) (number + 1) k s'
-          read_next {s'} e =
-              let n : NextIs columns' x y (step_at t at (at + size) s columns k) s' = rw e at took.case in
+          pub read_next : {s' : CodeState} → {a : Taken} → r ≡ Ok a → a ≡ Taken.Next s' → Reading t columns' first room x₀ y (at + size + 1) (number + 1) k s'
+          read_next {s'} o e =
+              let z : r ≡ Ok (Taken.Next s') = o ∙ ap Ok e in
+              let n : NextIs columns' x y (step_at t at (at + size) s columns k) s' = rw z at took.case in
               record {
                 at_most = omega (arith, inside);
                 short = v.short;
@@ -300,6 +302,8 @@ module _ {t columns : List ℕ} {first room : ℕ} {x₀ x : Index} {at number k
                 left = on_starts ∙ rw (n.is, n.kind_is, add-one k, n.same, append_assoc);
               }
 
-          pub read_row : slot ≡ slot_of first room k → {radar : Bool} → r ≡ Taken.Noted radar
+          pub read_row : slot ≡ slot_of first room k → {radar : Bool} {a : Taken} → r ≡ Ok a → a ≡ Taken.Noted radar
               → Reading t columns' first room x₀ y (at + size + 1) (number + 1) (k + 1) (record { need = Need.Nothing; columns = s.columns; radar = radar })
-          read_row slot_is {radar} e = noted_row slot_is radar (rw e at took.case)
+          read_row slot_is {radar} o e =
+              let z : r ≡ Ok (Taken.Noted radar) = o ∙ ap Ok e in
+              noted_row slot_is radar (rw z at took.case)

@@ -2,46 +2,45 @@
 use Prim.Native.Nat.{ℕ, zero, suc, ◌≤◌, ◌<◌, ◌+◌, ◌-◌, ◌*◌, ◌^◌, ◌%◌}
 use mathlib.Core.Path.{◌≡◌, refl, ap, sym, ◌∙◌}
 use mathlib.Core.List.{List, [], ◌∷◌}
-use mathlib.Core.Bool.{Bool, true, false, cond, ◌||◌, true≢false, beq}
+use mathlib.Core.Bool.{Bool, true, false, cond, true≢false, beq}
 use lib.Dec.{eqb}
-use lib.ListN.{length, take, drop, get_or, set, length-set, length-drop, length-take, drop_of_length-le, replicate}
-use lib.Seq.{get_or-set_same, get_or-set_other, drop-cons, drop-drop}
+use lib.ListN.{length, take, drop, get_or, set, length-set, length-take, drop_of_length-le, replicate}
+use lib.Seq.{get_or-set_same, get_or-set_other, drop-cons}
 use borrow.Author.Tests.{eq-eqb, ne_eqb, eqb-true, eqb-false, le-ltb, lt-ltb}
 use native.Mathlib.Omega.{arith}
 use lib.Pow.{pow-lt}
 use native.Mathlib.Nat.{one-mul, mod-eq_of_lt}
 use native.Mathlib.Numerals.{add-one}
-use Rattle.text.specs.Lines.{fields, trim, up_to, leading_blanks, field_from, FieldAt}
+use Rattle.text.specs.Lines.{fields, trim, leading_blanks, field_from, FieldAt}
 use Rattle.text.specs.Part.{same}
 use Rattle.text.specs.Bytes.{bytes}
 use Rattle.text.proofs.Bools.{bools}
-use Rattle.text.proofs.LineLaws.{part_of_part, fields_more, fields_last, fields_first}
+use Rattle.text.proofs.LineLaws.{part_of_part}
+use Rattle.std.specs.Prelude.{Option, Some, None, Result, Ok, Err, unwrap_or, ◌==◌}
+use Rattle.refusal.specs.Paper.{at}
 use Rattle.refusal.specs.declared.Kind.{Kind}
 use Rattle.refusal.specs.declared.Kind.TheVariants.{TooManyRows, FieldCountDiffers, KindsMixed}
 use Rattle.refusal.specs.declared.Fault.{Fault}
-use Rattle.refusal.specs.declared.Fault.TheVariants.{Sound, At}
 use Rattle.element.specs.Table.{elements}
 use Rattle.element.specs.Form.{fault_of}
 use Rattle.element.specs.Observation.{Observation, is_present, set_of, is_wgs84, is_earth, is_radar, is_radar_set, observation_fault, set_fault}
-use Rattle.element.specs.declared.form.Check.TheVariants.{Fine, Bad}
 use Rattle.element.proofs.Sets.{set_mark, set_fault_lem, set_radar}
 use Rattle.report.specs.Report.{Step, row, bad, field_fault, fill, row_of, data_line, row_limit}
 use Rattle.report.specs.Starts.{fill_starts, starts_of}
 use Rattle.report.specs.Index.{Index, lent, Shows}
-use Rattle.report.specs.Inner.{between, marks_of, mark_on, after_rows, taken_by, held_by, Kept, FieldsAsk, FieldsGood, FieldsAre, RowAsks, RowCase, RowIs}
+use Rattle.report.specs.Inner.{between, marks_of, mark_on, after_rows, kind_by, held_by, Kept, FieldsAsk, FieldsGood, FieldsAre, RowAsks, RowCase, RowIs}
 use Rattle.report.specs.declared.row.Marks.{Marks}
-use Rattle.report.specs.declared.row.Fields.{Fields}
-use Rattle.report.specs.declared.state.Taken.{Taken}
+use Rattle.report.proofs.FieldLaws.{Left, Split, split}
 
 -- ---- marks
 
-pub present_none : (v : List ℕ) → length v ≡ 0 → is_present v ≡ false
+pub present_none : (v : List ℕ) → true ≡ (length v == 0) → is_present v ≡ false
 present_none [] e = refl
-present_none (b ∷ v) e = absurd (omega arith)
+present_none (b ∷ v) e = absurd (let z : suc (length v) ≡ 0 = eqb-true (suc (length v)) 0 (sym e) in omega arith)
 
-pub present_some : (v : List ℕ) → (length v ≡ 0 → ⊥) → is_present v ≡ true
-present_some [] n = absurd (n refl)
-present_some (b ∷ v) n = refl
+pub present_some : (v : List ℕ) → false ≡ (length v == 0) → is_present v ≡ true
+present_some [] e = absurd (true≢false (sym e))
+present_some (b ∷ v) e = refl
 
 -- One moved up by an element's index.
 pub shifted : (c : ℕ) → c < elements → 1 * 2 ^ c % 18446744073709551616 ≡ 2 ^ c
@@ -134,7 +133,9 @@ long_on ys ys' j n v e =
 
 -- The observation so far and where its values start; what is left of the fields comes to the same.
 pub record Filling (t columns st₀ ln₀ st ln : List ℕ) (from till base a k : ℕ) (m : Marks) : Type 0 where
-  pub at_most : a ≤ length (between t from till)
+  pub left : List (List ℕ)
+  pub count : k + length left ≡ length columns
+  pub lies : Left (between t from till) a left
   pub starts_long : length st ≡ length st₀
   pub lengths_long : length ln ≡ length ln₀
   pub sofar : Observation
@@ -145,9 +146,9 @@ pub record Filling (t columns st₀ ln₀ st ln : List ℕ) (from till base a k 
   pub shows : Shows t st ln base sofar at
   pub starts_kept : Kept st₀ st base
   pub lengths_kept : Kept ln₀ ln base
-  pub faults : field_fault 1 columns (fields (between t from till)) ≡ field_fault (suc k) (drop k columns) (fields (drop a (between t from till)))
-  pub rest : row_of columns (fields (between t from till)) ≡ fill (drop k columns) (fields (drop a (between t from till))) sofar
-  pub places : starts_of columns (fields (between t from till)) from ≡ fill_starts (drop k columns) (fields (drop a (between t from till))) (from + a) at
+  pub faults : field_fault 1 columns (fields (between t from till)) ≡ field_fault (suc k) (drop k columns) left
+  pub rest : row_of columns (fields (between t from till)) ≡ fill (drop k columns) left sofar
+  pub places : starts_of columns (fields (between t from till)) from ≡ fill_starts (drop k columns) left (from + a) at
 
 blank_at : (n e : ℕ) → ◌≡◌ {A = List ℕ} (get_or (replicate n []) e []) []
 blank_at zero e = refl
@@ -158,10 +159,12 @@ blank_marks : (m : Marks) → m ≡ record { present = 0; wgs84 = false; earth =
 unfolding is_wgs84 is_earth same set_of
 blank_marks m e = e
 
-pub fill_start : (t columns st ln : List ℕ) (from till base : ℕ) (m : Marks) → m ≡ record { present = 0; wgs84 = false; earth = false }
-    → Filling t columns st ln st ln from till base 0 0 m
-fill_start t columns st ln from till base m e = record {
-  at_most = omega arith;
+pub fill_start : (t columns st ln : List ℕ) (from till base : ℕ) (m : Marks) → length (fields (between t from till)) ≡ length columns
+    → m ≡ record { present = 0; wgs84 = false; earth = false } → Filling t columns st ln st ln from till base 0 0 m
+fill_start t columns st ln from till base m c e = record {
+  left = fields (between t from till);
+  count = omega (arith, c);
+  lies = λ h. (omega arith, refl);
   starts_long = refl;
   lengths_long = refl;
   sofar = replicate elements [];
@@ -180,26 +183,17 @@ fill_start t columns st ln from till base m e = record {
     add_none : (n : ℕ) → n ≡ n + 0
     add_none n = omega arith
 
-no_fault : (p : ℕ) (cs : List ℕ) → field_fault p cs [] ≡ Sound
-unfolding field_fault
-no_fault p [] = refl
-no_fault p (c ∷ cs) = refl
-
-no_fill : (cs : List ℕ) (o : Observation) → fill cs [] o ≡ o
-unfolding fill
-no_fill [] o = refl
-no_fill (c ∷ cs) o = refl
-
-no_starts : (cs : List ℕ) (p : ℕ) (at : List ℕ) → fill_starts cs [] p at ≡ at
-unfolding fill_starts
-no_starts [] p at = refl
-no_starts (c ∷ cs) p at = refl
-
 module _ {t columns st₀ ln₀ st ln : List ℕ} {from till base a k : ℕ} {m : Marks} (asks : FieldsAsk t columns st₀ ln₀ from till base)
     (s : Filling t columns st₀ ln₀ st ln from till base a k m) where
   module _ {start size end : ℕ} (f : FieldAt (between t from till) a start size end) (h : k < length columns) where
-    line : List ℕ
-    line = between t from till
+    lies : (a ≤ length (between t from till)) × (s.left ≡ fields (drop a (between t from till)))
+    lies = s.lies (omega (arith, s.count))
+
+    parted : Split (between t from till) a end (fields (drop a (between t from till)))
+    parted = split f lies.0
+
+    left_is : s.left ≡ field_from (between t from till) a ∷ parted.others
+    left_is = lies.1 ∙ parted.is
 
     value : List ℕ
     value = trim (field_from (between t from till) a)
@@ -208,15 +202,18 @@ module _ {t columns st₀ ln₀ st ln : List ℕ} {from till base a k : ℕ} {m 
     unfolding value
     value_is = let c : start + size - start ≡ size = omega arith in rw c f.value
 
-    pub field_bad : (kind : Kind) → Bad kind ≡ fault_of (get_or columns k 0) (take (start + size - start) (drop start (between t from till)))
-        → field_fault 1 columns (fields (between t from till)) ≡ At kind (k + 1)
+    pub field_bad : (kind : Kind) → Err kind ≡ fault_of (get_or columns k 0) (take (start + size - start) (drop start (between t from till)))
+        → field_fault 1 columns (fields (between t from till)) ≡ Err (at kind (k + 1))
     unfolding field_fault value
     field_bad kind e =
         let e' = rw value_is at e in
-        s.faults ∙ rw (drop-cons columns k 0 h, (fields_first (drop a (between t from till))).1, ← e', add-one)
+        s.faults ∙ rw (drop-cons columns k 0 h, left_is, ← e', add-one)
 
     pub fields_inside : start + size ≤ till - from
-    fields_inside = omega (arith, f.within, f.fits s.at_most, length-take (till - from) (drop from t))
+    fields_inside = omega (arith, f.within, f.fits lies.0, length-take (till - from) (drop from t))
+
+    pub fields_fit : end ≤ till
+    fields_fit = omega (arith, f.fits lies.0, length-take (till - from) (drop from t))
 
     pub entry_inside : (base + get_or columns k 0 < length st) × (base + get_or columns k 0 < length ln) × (from + start < 65536) × (size < 65536)
     entry_inside = (
@@ -227,11 +224,11 @@ module _ {t columns st₀ ln₀ st ln : List ℕ} {from till base a k : ℕ} {m 
     )
 
     -- The value is right, its marks are put on and it is noted.
-    module _ (fine : Fine ≡ fault_of (get_or columns k 0) (take (start + size - start) (drop start (between t from till))))
+    module _ (fine : Ok tt ≡ fault_of (get_or columns k 0) (take (start + size - start) (drop start (between t from till))))
         {m' : Marks} (marked : m' ≡ mark_on m (get_or columns k 0) (take (start + size - start) (drop start (between t from till))))
         {st' ln' : List ℕ} (es : st' ≡ cond (eqb size 0) st (set st (base + get_or columns k 0) (from + start)))
         (el : ln' ≡ cond (eqb size 0) ln (set ln (base + get_or columns k 0) size)) where
-      fine_is : fault_of (get_or columns k 0) value ≡ Fine
+      fine_is : fault_of (get_or columns k 0) value ≡ Ok tt
       fine_is = sym (rw value_is at fine)
 
       size_is : size ≡ length value
@@ -277,37 +274,14 @@ module _ {t columns st₀ ln₀ st ln : List ℕ} {from till base a k : ℕ} {m 
       lengths_kept' : Kept ln₀ ln' base
       lengths_kept' = kept_on ln₀ ln ln' base (get_or columns k 0) size size (asks.known k h) el s.lengths_kept
 
-      pub fields_done : end ≡ length (between t from till) → FieldsGood t columns st₀ ln₀ st' ln' from till base m'
+      pub fields_on : Filling t columns st₀ ln₀ st' ln' from till base (end + 1) (k + 1) m'
       unfolding field_fault fill fill_starts value sofar' at'
-      fields_done q =
-          let u : up_to 124 (drop a (between t from till)) ≡ length (drop a (between t from till)) =
-          omega (arith, f.till_is, s.at_most, length-drop a (between t from till)) in
-          let fl = fields_last (drop a (between t from till)) u in
-          let r : row_of columns (fields (between t from till)) ≡ sofar' =
-          s.rest ∙ rw (drop-cons columns k 0 h, fl) (no_fill (drop (suc k) columns) _) in
-          let p : starts_of columns (fields (between t from till)) from ≡ at' =
-          s.places ∙ rw (drop-cons columns k 0 h, fl, start_is) (no_starts (drop (suc k) columns) _ _) in
+      fields_on =
+          let x : from + a + suc (length (field_from (between t from till) a)) ≡ from + (end + 1) = omega (arith, parted.wide) in
           record {
-            sound = s.faults ∙ rw (drop-cons columns k 0 h, fl, fine_is) (no_fault (suc (suc k)) (drop (suc k) columns));
-            marks = marks' ∙ ap (λ (o : Observation). marks_of o) (sym r);
-            shows = rw (r, p) shows';
-            starts_kept = starts_kept';
-            lengths_kept = lengths_kept';
-          }
-
-      pub fields_on : (end ≡ length (between t from till) → ⊥) → Filling t columns st₀ ln₀ st' ln' from till base (end + 1) (k + 1) m'
-      unfolding field_fault fill fill_starts value sofar' at'
-      fields_on q =
-          let u : up_to 124 (drop a (between t from till)) < length (drop a (between t from till)) =
-          omega (arith, f.till_is, f.fits s.at_most, s.at_most, length-drop a (between t from till)) in
-          let d : a + suc (up_to 124 (drop a (between t from till))) ≡ end + 1 = omega (arith, f.till_is) in
-          let fm : fields (drop a (between t from till)) ≡ field_from (between t from till) a ∷ fields (drop (end + 1) (between t from till)) =
-          fields_more (drop a (between t from till)) u ∙ rw (drop-drop, d) in
-          let w : length (field_from (between t from till) a) ≡ up_to 124 (drop a (between t from till)) =
-          omega (arith, length-take (up_to 124 (drop a (between t from till))) (drop a (between t from till)), u) in
-          let x : from + a + suc (length (field_from (between t from till) a)) ≡ from + (end + 1) = omega (arith, w, d) in
-          record {
-            at_most = omega (arith, f.fits s.at_most);
+            left = parted.others;
+            count = omega (arith, s.count, ap length left_is);
+            lies = parted.after;
             starts_long = long_on st st' (base + get_or columns k 0) size (from + start) es ∙ s.starts_long;
             lengths_long = long_on ln ln' (base + get_or columns k 0) size size el ∙ s.lengths_long;
             sofar = sofar';
@@ -318,9 +292,10 @@ module _ {t columns st₀ ln₀ st ln : List ℕ} {from till base a k : ℕ} {m 
             shows = shows';
             starts_kept = starts_kept';
             lengths_kept = lengths_kept';
-            faults = s.faults ∙ rw (drop-cons columns k 0 h, fm, fine_is, add-one k);
-            rest = s.rest ∙ rw (drop-cons columns k 0 h, fm, add-one k);
-            places = s.places ∙ rw (drop-cons columns k 0 h, fm, add-one k, start_is, ← x);
+            faults = s.faults ∙ (ap (λ (fs : List (List ℕ)). field_fault (suc k) (drop k columns) fs) left_is ∙ rw (drop-cons columns k 0 h, fine_is, add-one k));
+            rest = s.rest ∙ (ap (λ (fs : List (List ℕ)). fill (drop k columns) fs s.sofar) left_is ∙ rw (drop-cons columns k 0 h, add-one k));
+            places = s.places
+                ∙ (ap (λ (fs : List (List ℕ)). fill_starts (drop k columns) fs (from + a) s.at) left_is ∙ rw (drop-cons columns k 0 h, add-one k, start_is, ← x));
           }
 
   pub fields_end : length columns ≤ k → FieldsGood t columns st₀ ln₀ st ln from till base m
@@ -340,31 +315,35 @@ module _ {t columns st₀ ln₀ st ln : List ℕ} {from till base a k : ℕ} {m 
 -- ---- the data line
 
 -- What the loop over the fields ensures, once its answer is known.
-module _ {t columns st ln st' ln' : List ℕ} {from till base : ℕ} {r : Fields} (f : FieldsAre t columns st ln st' ln' from till base r) where
-  pub good_of : {m : Marks} → r ≡ Fields.Good m → FieldsGood t columns st ln st' ln' from till base m
+module _ {t columns st ln st' ln' : List ℕ} {from till base : ℕ} {r : Result Marks Fault} (f : FieldsAre t columns st ln st' ln' from till base r) where
+  pub good_of : {m : Marks} → r ≡ Ok m → FieldsGood t columns st ln st' ln' from till base m
   good_of e = rw e at f.case
 
-  pub wrong_of : {kind : Kind} {p : ℕ} → r ≡ Fields.Wrong kind p → field_fault 1 columns (fields (between t from till)) ≡ At kind p
+  pub wrong_of : {fault : Fault} → r ≡ Err fault → field_fault 1 columns (fields (between t from till)) ≡ Err fault
   wrong_of e = rw e at f.case
 
 -- A refused row is refused also after rows of its block; a row is one where it is the first or of their kind, and else 21.
-rows_bad : (first radar : Bool) {taken : Step} {kind : Kind} {p : ℕ} → taken ≡ bad kind p → after_rows first radar taken ≡ bad kind p
-rows_bad true radar e = e
-rows_bad false radar e = rw e
+rows_bad : (before : Option Bool) {taken : Step} {fault : Fault} → taken ≡ bad fault.kind fault.place → after_rows before taken ≡ bad fault.kind fault.place
+rows_bad None e = e
+rows_bad (Some radar) e = rw e
 
-rows_row : (first radar : Bool) {taken : Step} {o : Observation} → taken ≡ row o → (first || beq radar (is_radar o)) ≡ true
-    → after_rows first radar taken ≡ row o
-rows_row true radar e s = e
-rows_row false radar e s = rw (e, s)
+rows_row : (before : Option Bool) {taken : Step} {o : Observation} → taken ≡ row o → beq (unwrap_or before (is_radar o)) (is_radar o) ≡ true
+    → after_rows before taken ≡ row o
+rows_row None e s = e
+rows_row (Some radar) e s = rw (e, s)
 
-rows_mixed : (first radar : Bool) {taken : Step} {o : Observation} → taken ≡ row o → (first || beq radar (is_radar o)) ≡ false
-    → after_rows first radar taken ≡ bad KindsMixed 0
-rows_mixed true radar e s = absurd (true≢false s)
-rows_mixed false radar e s = rw (e, s)
+rows_mixed : (before : Option Bool) {taken : Step} {o : Observation} → taken ≡ row o → beq (unwrap_or before (is_radar o)) (is_radar o) ≡ false
+    → after_rows before taken ≡ bad KindsMixed 0
+rows_mixed None {o = o} e s = absurd (alike (is_radar o) s)
+  where
+    alike : (b : Bool) → beq b b ≡ false → ⊥
+    alike true s = true≢false s
+    alike false s = true≢false s
+rows_mixed (Some radar) e s = rw (e, s)
 
-pub row_refused : {t columns : List ℕ} {x y : Index} {from till slot k : ℕ} {first radar : Bool} {kind : Kind} {p : ℕ}
-    → data_line columns k (between t from till) ≡ bad kind p → RowIs t columns x y from till slot k first radar (Taken.Refused kind p)
-row_refused {first = first} {radar = radar} e = record { case = rows_bad first radar e }
+pub row_refused : {t columns : List ℕ} {x y : Index} {from till slot k : ℕ} {before : Option Bool} {fault : Fault}
+    → data_line columns k (between t from till) ≡ bad fault.kind fault.place → RowIs t columns x y from till slot k before (Err fault)
+row_refused {before = before} {fault = fault} e = record { case = rows_bad before {fault = fault} e }
 
 pub row_many : (columns : List ℕ) (k : ℕ) (l : List ℕ) → row_limit ≤ k → data_line columns k l ≡ bad TooManyRows 0
 unfolding data_line
@@ -375,8 +354,9 @@ module _ {t columns : List ℕ} {x : Index} {from till parts slot k : ℕ} (asks
   unfolding data_line
   row_count n = rw (lt-ltb k row_limit h, ne_eqb (length (fields (between t from till))) (length columns) (λ e. n (asks.parts_are ∙ e)))
 
-  pub fields_ask : FieldsAsk t columns x.starts x.lengths from till (slot * elements)
-  fields_ask = record {
+  pub fields_ask : parts ≡ length columns → FieldsAsk t columns x.starts x.lengths from till (slot * elements)
+  fields_ask c = record {
+    parts = sym asks.parts_are ∙ c;
     order = asks.order;
     in_text = asks.in_text;
     short = asks.short;
@@ -390,8 +370,8 @@ module _ {t columns : List ℕ} {x : Index} {from till parts slot k : ℕ} (asks
     count_is : length (fields (between t from till)) ≡ length columns
     count_is = sym asks.parts_are ∙ c
 
-    pub row_fields : {kind : Kind} {p : ℕ} → field_fault 1 columns (fields (between t from till)) ≡ At kind p
-        → data_line columns k (between t from till) ≡ bad kind p
+    pub row_fields : {fault : Fault} → field_fault 1 columns (fields (between t from till)) ≡ Err fault
+        → data_line columns k (between t from till) ≡ bad fault.kind fault.place
     unfolding data_line
     row_fields e = rw (lt-ltb k row_limit h, eq-eqb _ _ count_is, e)
 
@@ -399,28 +379,28 @@ module _ {t columns : List ℕ} {x : Index} {from till parts slot k : ℕ} (asks
       fault_is : set_fault m.present m.wgs84 m.earth ≡ observation_fault (row_of columns (fields (between t from till)))
       fault_is = rw g.marks (set_fault_lem (row_of columns (fields (between t from till))))
 
-      pub row_held : (first radar : Bool) {r : Taken} → r ≡ held_by m first radar
-          → RowIs t columns x (lent (set x.sets slot m.present) st' ln') from till slot k first radar r
+      pub row_held : (before : Option Bool) {r : Result Bool Fault} → r ≡ held_by m before
+          → RowIs t columns x (lent (set x.sets slot m.present) st' ln') from till slot k before r
       unfolding data_line held_by
-      row_held first radar {r} e = record { case = go (observation_fault (row_of columns (fields (between t from till)))) refl }
+      row_held before {r} e = record { case = go (observation_fault (row_of columns (fields (between t from till)))) refl }
         where
           kind_of_lem : is_radar_set m.present ≡ is_radar (row_of columns (fields (between t from till)))
           kind_of_lem = ap (λ (y : Marks). is_radar_set y.present) g.marks ∙ set_radar (row_of columns (fields (between t from till)))
 
-          by : (f : Fault) → observation_fault (row_of columns (fields (between t from till))) ≡ f → r ≡ taken_by f first radar (is_radar_set m.present)
-          by f q = e ∙ ap (λ (x : Fault). taken_by x first radar (is_radar_set m.present)) (fault_is ∙ q)
+          by : (f : Result Unit Fault) → observation_fault (row_of columns (fields (between t from till))) ≡ f → r ≡ kind_by f before (is_radar_set m.present)
+          by f q = e ∙ ap (λ (x : Result Unit Fault). kind_by x before (is_radar_set m.present)) (fault_is ∙ q)
 
-          go : (f : Fault) → observation_fault (row_of columns (fields (between t from till))) ≡ f
-              → RowCase t columns x (lent (set x.sets slot m.present) st' ln') from till slot k first radar r
-          go Sound q =
+          go : (f : Result Unit Fault) → observation_fault (row_of columns (fields (between t from till))) ≡ f
+              → RowCase t columns x (lent (set x.sets slot m.present) st' ln') from till slot k before r
+          go (Ok u) q =
               let taken : data_line columns k (between t from till) ≡ row (row_of columns (fields (between t from till))) =
               rw (lt-ltb k row_limit h, eq-eqb _ _ count_is, g.sound, q) in
-              bools (first || beq radar (is_radar_set m.present))
+              bools (beq (unwrap_or before (is_radar_set m.present)) (is_radar_set m.present))
               (λ s.
-              let r-is : r ≡ Taken.Noted (is_radar_set m.present) = rw s at (by Sound q) in
+              let r-is : r ≡ Ok (is_radar_set m.present) = rw s at (by (Ok u) q) in
               rw r-is (record {
                 got = row_of columns (fields (between t from till));
-                is = rows_row first radar taken (rw kind_of_lem at s);
+                is = rows_row before taken (rw kind_of_lem at s);
                 kind_is = kind_of_lem;
                 few = h;
                 noted = record {
@@ -433,6 +413,6 @@ module _ {t columns : List ℕ} {x : Index} {from till parts slot k : ℕ} (asks
                   lengths_kept = g.lengths_kept;
                 };
               }))
-              (λ s. let r-is : r ≡ Taken.Refused KindsMixed 0 = rw s at (by Sound q) in rw r-is (rows_mixed first radar taken (rw kind_of_lem at s)))
-          go (At kind p) q =
-              rw (by (At kind p) q) (rows_bad first radar (rw (lt-ltb k row_limit h, eq-eqb _ _ count_is, g.sound, q)))
+              (λ s. let r-is : r ≡ Err (at KindsMixed 0) = rw s at (by (Ok u) q) in rw r-is (rows_mixed before taken (rw kind_of_lem at s)))
+          go (Err fault) q =
+              rw (by (Err fault) q) (rows_bad before {fault = fault} (rw (lt-ltb k row_limit h, eq-eqb _ _ count_is, g.sound, q)))

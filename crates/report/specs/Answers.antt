@@ -1,31 +1,25 @@
 -- The answers of the entries as the paper gives them, from what the report reads as.
-use Rattle.std.specs.Prelude.{ℕ, ◌-◌, List, [], Bool, cond, ◌&&◌, length, get_or, leb}
-use Rattle.refusal.specs.Paper.{paper, Answer, refused_by, absent, given}
-use Rattle.refusal.specs.declared.Kind.{Kind}
+use Rattle.std.specs.Prelude.{ℕ, ◌-◌, List, [], Bool, cond, ◌&&◌, length, get_or, leb, Option, Some, None, Result, Ok, Err}
+use Rattle.text.specs.declared.lines.Span.{Span}
+use Rattle.refusal.specs.Paper.{paper, request, Answer, refused_by, absent, given}
 use Rattle.refusal.specs.declared.Kind.TheVariants.{NoObservation, NoElement}
 use Rattle.refusal.specs.declared.Refusal.{Refusal}
-use Rattle.value.specs.Paper.{Exact, no_value, whole, decimal, time, angle, scaled, PaperValue, fault, right, paper_value}
+use Rattle.value.specs.Paper.{Exact, no_value, exact as exact_of, PaperValue, fault, right, paper_value}
+use Rattle.value.specs.declared.Value.{Value}
 use Rattle.element.specs.Table.{elements}
 use Rattle.element.specs.Form.{value_of, has_value}
 use Rattle.element.specs.Observation.{Observation, is_present}
 use Rattle.report.specs.Report.{Outcome, accepted, refused}
-use Rattle.report.specs.declared.answer.Checked.{Checked}
-use Rattle.report.specs.declared.answer.Showing.{Showing}
-use Rattle.report.specs.declared.answer.Valued.{Valued}
 
 -- The answer to a check: the number of observations, or a refusal.
-abbrev pub checked_paper : Checked → Answer ℕ
-checked_paper (Checked.Accepted n) = given n
-checked_paper (Checked.Refused x) = refused_by (paper x)
+abbrev pub checked_paper : Result ℕ Refusal → Answer ℕ
+checked_paper (Ok n) = given n
+checked_paper (Err x) = refused_by (paper x)
 
 -- How many observations the report holds, or its refusal.
 abbrev pub checked_answer : Outcome → Answer ℕ
 checked_answer (accepted os) = given (length os)
 checked_answer (refused x) = refused_by (paper x)
-
--- A fault of the request, not of a line, has line and place 0.
-abbrev pub request : Kind → Refusal
-request k = record { kind = k; line = 0; place = 0 }
 
 -- There is an observation of that number, counted from 1; an element of that number.
 abbrev pub is_observation : List Observation → ℕ → Bool
@@ -48,10 +42,10 @@ shown_of (accepted os) n e = cond (is_observation os n && is_element e) (value_a
 shown_of (refused x) n e = []
 
 -- The answer to a showing: where the value starts and its length, "absent", or a refusal.
-abbrev pub showing_paper : Showing → Answer (ℕ × ℕ)
-showing_paper (Showing.At start size) = given (start, size)
-showing_paper Showing.Absent = absent
-showing_paper (Showing.Refused x) = refused_by (paper x)
+abbrev pub showing_paper : Result (Option Span) Refusal → Answer (ℕ × ℕ)
+showing_paper (Ok (Some span)) = given (span.start, span.length)
+showing_paper (Ok None) = absent
+showing_paper (Err x) = refused_by (paper x)
 
 -- Where the value lies, or why nothing is shown: 16 before 17, both after every refusal of the report.
 abbrev pub showing_answer : Outcome → List (List ℕ) → ℕ → ℕ → Answer (ℕ × ℕ)
@@ -64,15 +58,10 @@ showing_answer (accepted os) starts n e =
 showing_answer (refused x) starts n e = refused_by (paper x)
 
 -- The answer to a value: the exact value or "no value", "absent", or a refusal.
-abbrev pub valued_paper : Valued → Answer Exact
-valued_paper (Valued.Whole n) = given (whole n)
-valued_paper (Valued.Decimal n places) = given (decimal n places)
-valued_paper (Valued.Time day microseconds) = given (time day microseconds)
-valued_paper (Valued.Angle units) = given (angle units)
-valued_paper (Valued.Scaled negative high low power) = given (scaled negative high low power)
-valued_paper Valued.Absent = absent
-valued_paper Valued.NoValue = given no_value
-valued_paper (Valued.Refused x) = refused_by (paper x)
+abbrev pub valued_paper : Result (Option Value) Refusal → Answer Exact
+valued_paper (Ok (Some value)) = given (exact_of value)
+valued_paper (Ok None) = absent
+valued_paper (Err x) = refused_by (paper x)
 
 -- The exact value of a value that is right; an accepted report has no other.
 abbrev pub exact : PaperValue → Exact

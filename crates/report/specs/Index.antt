@@ -1,11 +1,11 @@
 -- Where the reader notes an accepted report's values, for the crates above: a list of sets, and two lists of starts and lengths.
-use Rattle.std.specs.Prelude.{ℕ, ◌+◌, ◌-◌, ◌*◌, ◌/◌, ◌≤◌, ◌<◌, min, ◌≡◌, List, [], Bool, true, cond, ◌&&◌, ltb, length, take, drop, get_or}
+use Rattle.std.specs.Prelude.{ℕ, ◌+◌, ◌-◌, ◌*◌, ◌/◌, ◌≤◌, ◌<◌, min, ◌≡◌, List, [], Bool, true, cond, ◌&&◌, ltb, length, take, drop, get_or, Result, Ok, Err}
+use Rattle.refusal.specs.declared.Refusal.{Refusal}
 use Rattle.element.specs.Table.{elements}
 use Rattle.element.specs.Set.{has, bytes_in}
 use Rattle.element.specs.Observation.{Observation, is_present, set_of}
 use Rattle.report.specs.Report.{accepted, refused, read, row_limit}
 use Rattle.report.specs.Starts.{starts_in}
-use Rattle.report.specs.declared.answer.Checked.{Checked}
 
 -- The lent lists: a set of present elements a row, and a start and a length an element of a row.
 pub record Index : Type 0 where
@@ -49,11 +49,11 @@ pub record AcceptedIs (t : List ℕ) (first room : ℕ) (x : Index) (k : ℕ) : 
   pub noted : (i : ℕ) → i < room → first + i < k → Noted t x i (get_or rows (first + i) []) (get_or (starts_in t) (first + i) [])
 
 -- What indexing promises. Of a refused report only the refusal: the lists are then settled by nothing.
-abbrev pub IndexCase : List ℕ → ℕ → ℕ → Index → Checked → Type 0
-IndexCase t first room x (Checked.Accepted k) = AcceptedIs t first room x k
-IndexCase t first room x (Checked.Refused r) = read t ≡ refused r
+abbrev pub IndexCase : List ℕ → ℕ → ℕ → Index → Result ℕ Refusal → Type 0
+IndexCase t first room x (Ok k) = AcceptedIs t first room x k
+IndexCase t first room x (Err r) = read t ≡ refused r
 
-pub record IndexIs (t : List ℕ) (first room : ℕ) (x : Index) (r : Checked) : Type 0 where
+pub record IndexIs (t : List ℕ) (first room : ℕ) (x : Index) (r : Result ℕ Refusal) : Type 0 where
   pub case : IndexCase t first room x r
 
 -- ---- a value read off an index

@@ -1,13 +1,15 @@
 -- What the reader's private functions promise each other. A reviewer of the report's rules can skip this file.
-use Rattle.std.specs.Prelude.{ℕ, ◌+◌, ◌-◌, ◌*◌, ◌^◌, ◌≤◌, ◌<◌, ◌≡◌, List, [], Bool, false, cond, ◌&&◌, ◌||◌, eqb, leb, ltb, length, take, drop, get_or}
+use Rattle.std.specs.Prelude.{ℕ, ◌+◌, ◌-◌, ◌*◌, ◌^◌, ◌≤◌, ◌<◌, ◌≡◌, List, [], Bool, false, cond, ◌&&◌, eqb, leb, ltb, length, take, drop, get_or, Option, unwrap_or, Some, None, Result, Ok, Err}
 use Rattle.std.specs.Bool.{beq}
 use Rattle.std.specs.Int.Bits.{bit_or}
 use Rattle.text.specs.Bytes.{bytes}
 use Rattle.text.specs.Part.{same}
 use Rattle.text.specs.Lines.{fields}
+use Rattle.text.specs.declared.lines.Span.{Span}
+use Rattle.refusal.specs.Paper.{at}
 use Rattle.refusal.specs.declared.Kind.TheVariants.{BlockUnfinished, KindsMixed}
+use Rattle.refusal.specs.declared.Refusal.{Refusal}
 use Rattle.refusal.specs.declared.Fault.{Fault}
-use Rattle.refusal.specs.declared.Fault.TheVariants.{Sound, At}
 use Rattle.element.specs.Set.{has}
 use Rattle.element.specs.Table.{elements}
 use Rattle.element.specs.Observation.{Observation, is_present, is_radar, set_of, is_wgs84, is_earth, is_radar_set, set_fault}
@@ -15,10 +17,7 @@ use Rattle.report.specs.Report.{State, Step, next, row, bad, columns_from, field
 use Rattle.report.specs.Starts.{starts_of, starts_in}
 use Rattle.report.specs.Answers.{shown_of, showing_paper, showing_answer}
 use Rattle.report.specs.Index.{Index, Shows, Noted}
-use Rattle.report.specs.declared.answer.Checked.{Checked}
-use Rattle.report.specs.declared.answer.Showing.{Showing}
 use Rattle.report.specs.declared.row.Marks.{Marks}
-use Rattle.report.specs.declared.row.Fields.{Fields}
 use Rattle.report.specs.declared.state.Need.{Need}
 use Rattle.report.specs.declared.state.State.{State as CodeState}
 use Rattle.report.specs.declared.state.Taken.{Taken}
@@ -43,12 +42,11 @@ pub record NamedAs (l columns : List ℕ) (s : CodeState) : Type 0 where
   pub is : columns_from [] (fields l) ≡ next (state_of s columns)
   pub known : Known s columns
 
-abbrev pub NamedCase : List ℕ → List ℕ → Taken → Type 0
-NamedCase l columns (Taken.Next s) = NamedAs l columns s
-NamedCase l columns (Taken.Noted radar) = ⊥
-NamedCase l columns (Taken.Refused kind p) = columns_from [] (fields l) ≡ bad kind p
+abbrev pub NamedCase : List ℕ → List ℕ → Result CodeState Fault → Type 0
+NamedCase l columns (Ok s) = NamedAs l columns s
+NamedCase l columns (Err f) = columns_from [] (fields l) ≡ bad f.kind f.place
 
-pub record NamedIs (l columns : List ℕ) (r : Taken) : Type 0 where
+pub record NamedIs (l columns : List ℕ) (r : Result CodeState Fault) : Type 0 where
   pub case : NamedCase l columns r
 
 -- ---- the fields of a data line
@@ -68,22 +66,26 @@ mark_on m e v =
     })
     m
 
+-- The rows before in the block are radar or not; none where it has no row.
+abbrev pub rows_of : Need → Bool → Option Bool
+rows_of Need.Version radar = None
+rows_of Need.Columns radar = None
+rows_of Need.Row radar = None
+rows_of Need.Nothing radar = Some radar
+
 -- What the first data line of a block comes to, or one after rows that are radar or not.
-abbrev pub after_rows : Bool → Bool → Step → Step
-after_rows first radar taken = cond first taken (of_kind radar taken)
+abbrev pub after_rows : Option Bool → Step → Step
+after_rows None taken = taken
+after_rows (Some radar) taken = of_kind radar taken
 
--- An observation that is radar or not, there.
-abbrev pub noted_after : Bool → Bool → Bool → Taken
-noted_after first radar kind = cond (first || beq radar kind) (Taken.Noted kind) (Taken.Refused KindsMixed 0)
+-- Whether an observation there is radar, unless it is of another kind or has a fault.
+abbrev pub kind_by : Result Unit Fault → Option Bool → Bool → Result Bool Fault
+kind_by (Ok u) before radar = cond (beq (unwrap_or before radar) radar) (Ok radar) (Err (at KindsMixed 0))
+kind_by (Err f) before radar = Err f
 
--- What a fault makes of it.
-abbrev pub taken_by : Fault → Bool → Bool → Bool → Taken
-taken_by Sound first radar kind = noted_after first radar kind
-taken_by (At kind p) first radar other = Taken.Refused kind p
-
--- What marks come to: an observation, unless it does not hold what it must or is of another kind.
-unfoldable pub held_by : Marks → Bool → Bool → Taken
-held_by m first radar = taken_by (set_fault m.present m.wgs84 m.earth) first radar (is_radar_set m.present)
+-- What marks come to: an observation that is radar or not, unless it does not hold what it must or is of another kind.
+unfoldable pub held_by : Marks → Option Bool → Result Bool Fault
+held_by m before = kind_by (set_fault m.present m.wgs84 m.earth) before (is_radar_set m.present)
 
 -- Outside a row's entries from base on nothing changed.
 abbrev pub Kept : List ℕ → List ℕ → ℕ → Type 0
@@ -91,6 +93,7 @@ Kept old now base =
     ((j : ℕ) → j < base → get_or now j 0 ≡ get_or old j 0) × ((j : ℕ) → base + elements ≤ j → get_or now j 0 ≡ get_or old j 0)
 
 pub record FieldsAsk (t columns starts lengths : List ℕ) (from till base : ℕ) : Type 0 where
+  pub parts : length (fields (between t from till)) ≡ length columns
   pub order : from ≤ till
   pub in_text : till < length t
   pub short : till < 65536
@@ -100,19 +103,19 @@ pub record FieldsAsk (t columns starts lengths : List ℕ) (from till base : ℕ
   pub known : (k : ℕ) → k < length columns → get_or columns k 0 < elements
 
 pub record FieldsGood (t columns starts lengths starts' lengths' : List ℕ) (from till base : ℕ) (m : Marks) : Type 0 where
-  pub sound : field_fault 1 columns (fields (between t from till)) ≡ Sound
+  pub sound : field_fault 1 columns (fields (between t from till)) ≡ Ok tt
   pub marks : m ≡ marks_of (row_of columns (fields (between t from till)))
   pub shows : Shows t starts' lengths' base (row_of columns (fields (between t from till))) (starts_of columns (fields (between t from till)) from)
   pub starts_kept : Kept starts starts' base
   pub lengths_kept : Kept lengths lengths' base
 
-abbrev pub FieldsCase : List ℕ → List ℕ → List ℕ → List ℕ → List ℕ → List ℕ → ℕ → ℕ → ℕ → Fields → Type 0
-FieldsCase t columns starts lengths starts' lengths' from till base (Fields.Good m) =
+abbrev pub FieldsCase : List ℕ → List ℕ → List ℕ → List ℕ → List ℕ → List ℕ → ℕ → ℕ → ℕ → Result Marks Fault → Type 0
+FieldsCase t columns starts lengths starts' lengths' from till base (Ok m) =
     FieldsGood t columns starts lengths starts' lengths' from till base m
-FieldsCase t columns starts lengths starts' lengths' from till base (Fields.Wrong k p) =
-    field_fault 1 columns (fields (between t from till)) ≡ At k p
+FieldsCase t columns starts lengths starts' lengths' from till base (Err f) =
+    field_fault 1 columns (fields (between t from till)) ≡ Err f
 
-pub record FieldsAre (t columns starts lengths starts' lengths' : List ℕ) (from till base : ℕ) (r : Fields) : Type 0 where
+pub record FieldsAre (t columns starts lengths starts' lengths' : List ℕ) (from till base : ℕ) (r : Result Marks Fault) : Type 0 where
   pub case : FieldsCase t columns starts lengths starts' lengths' from till base r
 
 -- ---- a data line
@@ -139,22 +142,21 @@ pub record KeptBut (x y : Index) (slot : ℕ) : Type 0 where
   pub lengths_kept : Kept x.lengths y.lengths (slot * elements)
 
 -- The data line is an observation, noted at the slot.
-pub record RowGood (t columns : List ℕ) (x y : Index) (from till slot k : ℕ) (first radar kind : Bool) : Type 0 where
+pub record RowGood (t columns : List ℕ) (x y : Index) (from till slot k : ℕ) (before : Option Bool) (kind : Bool) : Type 0 where
   pub got : Observation
-  pub is : after_rows first radar (data_line columns k (between t from till)) ≡ row got
+  pub is : after_rows before (data_line columns k (between t from till)) ≡ row got
   pub kind_is : kind ≡ is_radar got
   pub few : k < row_limit
   pub noted : Noted t y slot got (starts_of columns (fields (between t from till)) from)
   pub kept : KeptBut x y slot
 
-abbrev pub RowCase : List ℕ → List ℕ → Index → Index → ℕ → ℕ → ℕ → ℕ → Bool → Bool → Taken → Type 0
-RowCase t columns x y from till slot k first radar (Taken.Next s) = ⊥
-RowCase t columns x y from till slot k first radar (Taken.Noted kind) = RowGood t columns x y from till slot k first radar kind
-RowCase t columns x y from till slot k first radar (Taken.Refused kind p) =
-    after_rows first radar (data_line columns k (between t from till)) ≡ bad kind p
+abbrev pub RowCase : List ℕ → List ℕ → Index → Index → ℕ → ℕ → ℕ → ℕ → Option Bool → Result Bool Fault → Type 0
+RowCase t columns x y from till slot k before (Ok kind) = RowGood t columns x y from till slot k before kind
+RowCase t columns x y from till slot k before (Err f) =
+    after_rows before (data_line columns k (between t from till)) ≡ bad f.kind f.place
 
-pub record RowIs (t columns : List ℕ) (x y : Index) (from till slot k : ℕ) (first radar : Bool) (r : Taken) : Type 0 where
-  pub case : RowCase t columns x y from till slot k first radar r
+pub record RowIs (t columns : List ℕ) (x y : Index) (from till slot k : ℕ) (before : Option Bool) (r : Result Bool Fault) : Type 0 where
+  pub case : RowCase t columns x y from till slot k before r
 
 -- ---- a line
 
@@ -167,11 +169,11 @@ abbrev pub other_at : List ℕ → ℕ → ℕ → CodeState → List ℕ → �
 other_at t from till s columns k = other s.need (take s.columns columns) s.radar k (between t from till)
 
 -- A right version line.
-abbrev pub opened_to : Need → Taken
-opened_to Need.Version = Taken.Next (record { need = Need.Columns; columns = 0; radar = false })
-opened_to Need.Columns = Taken.Refused BlockUnfinished 0
-opened_to Need.Row = Taken.Refused BlockUnfinished 0
-opened_to Need.Nothing = Taken.Next (record { need = Need.Columns; columns = 0; radar = false })
+abbrev pub opened_to : Need → Result CodeState Fault
+opened_to Need.Version = Ok (record { need = Need.Columns; columns = 0; radar = false })
+opened_to Need.Columns = Err (at BlockUnfinished 0)
+opened_to Need.Row = Err (at BlockUnfinished 0)
+opened_to Need.Nothing = Ok (record { need = Need.Columns; columns = 0; radar = false })
 
 -- The line is a version line or a column line: the state after it; the index is as it was.
 pub record NextIs (columns : List ℕ) (x y : Index) (taken : Step) (s : CodeState) : Type 0 where
@@ -189,12 +191,12 @@ pub record RowTaken (t columns columns' : List ℕ) (x y : Index) (from till slo
   pub kept : KeptBut x y slot
   pub same : columns' ≡ columns
 
-abbrev pub LineCase : List ℕ → List ℕ → List ℕ → Index → Index → ℕ → ℕ → ℕ → ℕ → CodeState → Step → Taken → Type 0
-LineCase t columns columns' x y from till slot k old taken (Taken.Next s) = NextIs columns' x y taken s
-LineCase t columns columns' x y from till slot k old taken (Taken.Noted radar) = RowTaken t columns columns' x y from till slot k old taken radar
-LineCase t columns columns' x y from till slot k old taken (Taken.Refused kind p) = taken ≡ bad kind p
+abbrev pub LineCase : List ℕ → List ℕ → List ℕ → Index → Index → ℕ → ℕ → ℕ → ℕ → CodeState → Step → Result Taken Fault → Type 0
+LineCase t columns columns' x y from till slot k old taken (Ok (Taken.Next s)) = NextIs columns' x y taken s
+LineCase t columns columns' x y from till slot k old taken (Ok (Taken.Noted radar)) = RowTaken t columns columns' x y from till slot k old taken radar
+LineCase t columns columns' x y from till slot k old taken (Err f) = taken ≡ bad f.kind f.place
 
-pub record TookLine (t columns columns' : List ℕ) (x y : Index) (from till slot k : ℕ) (old : CodeState) (taken : Step) (r : Taken) : Type 0 where
+pub record TookLine (t columns columns' : List ℕ) (x y : Index) (from till slot k : ℕ) (old : CodeState) (taken : Step) (r : Result Taken Fault) : Type 0 where
   pub case : LineCase t columns columns' x y from till slot k old taken r
 
 pub record LineAsks (t columns : List ℕ) (x : Index) (from till parts slot : ℕ) (s : CodeState) : Type 0 where
@@ -213,20 +215,20 @@ unfoldable pub slot_of : ℕ → ℕ → ℕ → ℕ
 slot_of first room k = cond (leb first k && ltb (k - first) room) (k - first) room
 
 -- The answer at the end of the text.
-abbrev pub checked_at : Need → ℕ → ℕ → Checked
-checked_at Need.Version n k = Checked.Accepted k
-checked_at Need.Columns n k = Checked.Refused (record { kind = BlockUnfinished; line = n; place = 0 })
-checked_at Need.Row n k = Checked.Refused (record { kind = BlockUnfinished; line = n; place = 0 })
-checked_at Need.Nothing n k = Checked.Accepted k
+abbrev pub checked_at : Need → ℕ → ℕ → Result ℕ Refusal
+checked_at Need.Version n k = Ok k
+checked_at Need.Columns n k = Err (record { kind = BlockUnfinished; line = n; place = 0 })
+checked_at Need.Row n k = Err (record { kind = BlockUnfinished; line = n; place = 0 })
+checked_at Need.Nothing n k = Ok k
 
 -- ---- one value
 
 -- What the first row of an index shows of an element.
-unfoldable pub slot_shown : List ℕ → List ℕ → List ℕ → ℕ → Showing
+unfoldable pub slot_shown : List ℕ → List ℕ → List ℕ → ℕ → Option Span
 slot_shown sets starts lengths e =
-    cond (has (get_or sets 0 0) e) (Showing.At (get_or starts e 0) (get_or lengths e 0)) Showing.Absent
+    cond (has (get_or sets 0 0) e) (Some (record { start = get_or starts e 0; length = get_or lengths e 0 })) None
 
 -- Where a value lies, and that it lies there.
-pub record LocatedIs (t : List ℕ) (n e : ℕ) (r : Showing) : Type 0 where
+pub record LocatedIs (t : List ℕ) (n e : ℕ) (r : Result (Option Span) Refusal) : Type 0 where
   pub is : showing_paper r ≡ showing_answer (read t) (starts_in t) n e
-  pub lies : (start size : ℕ) → r ≡ Showing.At start size → (start + size ≤ length t) × (take size (drop start t) ≡ shown_of (read t) n e)
+  pub lies : (span : Span) → r ≡ Ok (Some span) → (span.start + span.length ≤ length t) × (take span.length (drop span.start t) ≡ shown_of (read t) n e)

@@ -1,19 +1,17 @@
 -- What a report is, what it means and how it is refused: document 01's line rules, in its order of refusals, and since order 3 a block's kind.
-use Rattle.std.specs.Prelude.{ℕ, suc, List, [], ◌∷◌, ◌++◌, Bool, false, cond, ◌||◌, length, set, replicate, eqb, ltb}
+use Rattle.std.specs.Prelude.{ℕ, suc, List, [], ◌∷◌, ◌++◌, Bool, false, cond, ◌||◌, length, set, replicate, eqb, ltb, Result, Ok, Err}
 use Rattle.std.specs.Bool.{beq}
 use Rattle.text.specs.Bytes.{bytes}
 use Rattle.text.specs.Part.{same}
 use Rattle.text.specs.Lines.{Lines, end, cut, line, lines, fields, trim, printable}
+use Rattle.refusal.specs.Paper.{at}
 use Rattle.refusal.specs.declared.Kind.{Kind}
 use Rattle.refusal.specs.declared.Kind.TheVariants.{TextTooLong, NoLineEnd, WrongByte, VersionExpected, BlockUnfinished, UnknownColumn, ColumnTwice, TooManyRows, FieldCountDiffers, KindsMixed}
 use Rattle.refusal.specs.declared.Fault.{Fault}
-use Rattle.refusal.specs.declared.Fault.TheVariants.{Sound, At}
 use Rattle.refusal.specs.declared.Refusal.{Refusal}
 use Rattle.element.specs.Table.{elements, index_of}
 use Rattle.element.specs.Form.{fault_of}
 use Rattle.element.specs.Observation.{Observation, is_present, is_radar, observation_fault}
-use Rattle.element.specs.declared.form.Check.{Check}
-use Rattle.element.specs.declared.form.Check.TheVariants.{Fine, Bad}
 use Rattle.report.specs.declared.state.Need.{Need}
 
 -- The text limit, in bytes.
@@ -62,14 +60,14 @@ columns_from seen (f ∷ fs) =
     (bad UnknownColumn (suc (length seen)))
 
 -- A fault of the field at position p, or else what comes after it.
-abbrev pub or_next : Check → ℕ → Fault → Fault
-or_next Fine p f = f
-or_next (Bad k) p f = At k p
+abbrev pub or_next : Result Unit Kind → ℕ → Result Unit Fault → Result Unit Fault
+or_next (Ok u) p f = f
+or_next (Err k) p f = Err (at k p)
 
 -- The first fault of a data line's fields: field by field 8, 9, 10; place is the column's position.
-unfoldable pub field_fault : ℕ → List ℕ → List (List ℕ) → Fault
-field_fault p [] fs = Sound
-field_fault p (c ∷ cs) [] = Sound
+unfoldable pub field_fault : ℕ → List ℕ → List (List ℕ) → Result Unit Fault
+field_fault p [] fs = Ok tt
+field_fault p (c ∷ cs) [] = Ok tt
 field_fault p (c ∷ cs) (f ∷ fs) = or_next (fault_of c (trim f)) p (field_fault (suc p) cs fs)
 
 -- Each field's value put at its column's element; an empty value means the element is absent.
@@ -83,10 +81,10 @@ abbrev pub row_of : List ℕ → List (List ℕ) → Observation
 row_of columns fs = fill columns fs (replicate elements [])
 
 -- An observation, unless its fields or what it must hold are at fault.
-abbrev pub row_unless : Fault → Fault → Observation → Step
-row_unless (At k p) g o = bad k p
-row_unless Sound (At k p) o = bad k p
-row_unless Sound Sound o = row o
+abbrev pub row_unless : Result Unit Fault → Result Unit Fault → Observation → Step
+row_unless (Err f) g o = bad f.kind f.place
+row_unless (Ok u) (Err g) o = bad g.kind g.place
+row_unless (Ok u) (Ok v) o = row o
 
 -- A data line with k before it in the text: 14, 18, then field by field 8, 9, 10, then 22, 11, 12, 13.
 unfoldable pub data_line : List ℕ → ℕ → List ℕ → Step

@@ -2,13 +2,11 @@
 ghost use Rattle.std.specs.Prelude.{◌≡◌, cond, ◌<◌, eqb, length as length', set};
 ghost use Rattle.element.specs.Table.{elements};
 ghost use Rattle.report.specs.Index.{lent};
-ghost use Rattle.report.specs.Inner.{mark_on, noted_after, held_by, FieldsAsk, FieldsAre, RowAsks, RowIs};
+ghost use Rattle.report.specs.Inner.{mark_on, held_by, FieldsAsk, FieldsAre, RowAsks, RowIs};
 
 use crate::ROW_LIMIT;
-use crate::state::Taken;
-use element::ELEMENTS;
-use element::form::Check;
 use element::observation::{is_radar, observation_fault};
+use element::{ELEMENTS, form};
 use refusal::{Fault, Kind};
 
 // What the values passed so far tell of their observation: the set of present elements, whether sys is WGS84, whether ctr is 399.
@@ -19,15 +17,8 @@ pub struct Marks {
     pub earth: bool,
 }
 
-// What the fields of a data line come to: the marks of its observation, or a refusal's kind and place.
-#[derive(Clone, Copy)]
-pub enum Fields {
-    Good(Marks),
-    Wrong(Kind, usize),
-}
-
-// A data line with k before it, which is the first of its block or stands after rows that are radar or not: 14, 18, its fields, its
-// observation, which is noted in the index at a slot, 21.
+// A data line with k before it in the text, which is the first of its block or stands after rows that are radar or not: 14, 18, its fields, its
+// observation, which is noted in the index at a slot, 21. It says whether its observation is radar.
 pub(crate) fn data_line(
     report: &[u8],
     from: usize,
@@ -39,51 +30,43 @@ pub(crate) fn data_line(
     lengths: &mut [u16],
     slot: usize,
     k: usize,
-    first: bool,
-    radar: bool,
-) -> Taken
+    before: Option<bool>,
+) -> Result<bool, Fault>
     requires { RowAsks report.now columns.now (lent sets.old starts.old lengths.old) from till fields slot }
-    ensures { RowIs report.now columns.now (lent sets.old starts.old lengths.old) (lent sets.new starts.new lengths.new) from till slot k first radar result }
+    ensures { RowIs report.now columns.now (lent sets.old starts.old lengths.old) (lent sets.new starts.new lengths.new) from till slot k before result }
 {
     if k >= ROW_LIMIT {
-        return Taken::Refused(Kind::TooManyRows, 0);
+        return Err(Fault {
+            kind: Kind::TooManyRows,
+            place: 0,
+        });
     }
     if fields != columns.len() {
-        return Taken::Refused(Kind::FieldCountDiffers, 0);
+        return Err(Fault {
+            kind: Kind::FieldCountDiffers,
+            place: 0,
+        });
     }
     let base = slot * ELEMENTS;
-    let taken = take_fields(report, from, till, columns, starts, lengths, base);
-    match taken {
-        Fields::Wrong(kind, place) => {
-            return Taken::Refused(kind, place);
-        }
-        Fields::Good(marks) => {
-            sets[slot] = marks.present;
-            return held(marks, first, radar);
-        }
-    }
+    let marks = take_fields(report, from, till, columns, starts, lengths, base)?;
+    sets[slot] = marks.present;
+    held(marks, before)
 }
 
-// What a data line comes to whose fields are right: an observation, unless it does not hold what it must or is of another kind than the
+// Whether the observation of a data line whose fields are right is radar, unless it does not hold what it must or is of another kind than the
 // rows before it.
-fn held(marks: Marks, first: bool, radar: bool) -> Taken
-    ensures { result ≡ held_by marks first radar }
+fn held(marks: Marks, before: Option<bool>) -> Result<bool, Fault>
+    ensures { result ≡ held_by marks before }
 {
-    let fault = observation_fault(marks.present, marks.wgs84, marks.earth);
-    match fault {
-        Fault::Sound => noted(first, radar, is_radar(marks.present)),
-        Fault::At(kind, place) => Taken::Refused(kind, place),
+    observation_fault(marks.present, marks.wgs84, marks.earth)?;
+    let radar = is_radar(marks.present);
+    if before.unwrap_or(radar) == radar {
+        return Ok(radar);
     }
-}
-
-// An observation that is radar or not, the first of its block or after rows that are radar or not: 21 where it is of another kind.
-fn noted(first: bool, radar: bool, kind: bool) -> Taken
-    ensures { result ≡ noted_after first radar kind }
-{
-    if first | (radar == kind) {
-        return Taken::Noted(kind);
-    }
-    Taken::Refused(Kind::KindsMixed, 0)
+    Err(Fault {
+        kind: Kind::KindsMixed,
+        place: 0,
+    })
 }
 
 // The fields of the data line from..till: the first fault, or the marks of its observation; where each value lies is noted from entry base on.
@@ -95,7 +78,7 @@ fn take_fields(
     starts: &mut [u16],
     lengths: &mut [u16],
     base: usize,
-) -> Fields
+) -> Result<Marks, Fault>
     requires { FieldsAsk report.now columns.now starts.old lengths.old from till base }
     ensures { FieldsAre report.now columns.now starts.old lengths.old starts.new lengths.new from till base result }
 {
@@ -106,26 +89,26 @@ fn take_fields(
         earth: false,
     };
     let mut at: usize = 0;
-    let mut k: usize = 0;
-    while k < columns.len() {
+    for (k, column) in columns.iter().enumerate() {
         let field = text::lines::field_at(line, at);
-        let start = field.start;
-        let end = field.start + field.length;
+        let start = field.value.start;
+        let end = start + field.value.length;
         let value = &line[start..end];
-        let column = columns[k] as usize;
-        let check = element::form::fault(column, value);
-        if let Check::Bad(kind) = check {
-            return Fields::Wrong(kind, k + 1);
+        let column = usize::from(*column);
+        if let Err(kind) = form::fault(column, value) {
+            return Err(Fault { kind, place: k + 1 });
         }
         marks = marked(marks, column, value);
-        note(starts, lengths, base + column, from + start, field.length);
-        if field.till == line.len() {
-            return Fields::Good(marks);
-        }
+        note(
+            starts,
+            lengths,
+            base + column,
+            from + start,
+            field.value.length,
+        );
         at = field.till + 1;
-        k += 1;
     }
-    Fields::Good(marks)
+    Ok(marks)
 }
 
 // Notes at an entry of the index where a value lies; an absent one is not noted.
@@ -144,27 +127,25 @@ fn marked(marks: Marks, element: usize, value: &[u8]) -> Marks
     requires { element < elements }
     ensures { result ≡ mark_on marks element value.now }
 {
-    if value.len() == 0 {
+    if value.is_empty() {
         return marks;
     }
     let present = marks.present | (1u64 << element);
     if element == 8 {
+        let wgs84 = text::part::same(value, b"WGS84");
         return Marks {
-            present: present,
-            wgs84: text::part::same(value, b"WGS84"),
-            earth: marks.earth,
+            present,
+            wgs84,
+            ..marks
         };
     }
     if element == 9 {
+        let earth = text::part::same(value, b"399");
         return Marks {
-            present: present,
-            wgs84: marks.wgs84,
-            earth: text::part::same(value, b"399"),
+            present,
+            earth,
+            ..marks
         };
     }
-    Marks {
-        present: present,
-        wgs84: marks.wgs84,
-        earth: marks.earth,
-    }
+    Marks { present, ..marks }
 }

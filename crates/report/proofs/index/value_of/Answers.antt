@@ -18,7 +18,7 @@ pub returns-then-element-ge-ELEMENTS : goal.returns-then-element-ge-ELEMENTS
 returns-then-element-ge-ELEMENTS c = none_element _ (lent c.args.sets.now c.args.starts.now c.args.lengths.now) _ _ (inside (goal.at.returns-then-element-ge-ELEMENTS c).Else-rows_in-row) c.if-element-ge-ELEMENTS.true
 
 pub returns-then-has : goal.returns-then-has
-returns-then-has c = c.front.ensures ∙ rw (c.tail-rest.ensures, c.wide.ensures, c.wide-then-has.ensures)
+returns-then-has c = c.front.ensures ∙ rw (c.tail-rest.ensures, c.from.ensures, c.from-then-has.ensures)
     let if2 = c.if-element-ge-ELEMENTS in
     let has = c.has in
     let if3 = c.if-has in

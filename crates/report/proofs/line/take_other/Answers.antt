@@ -1,7 +1,10 @@
-use Rattle.report.proofs.LineSteps.{line_columns, line_row, row_asks, line_bad, due_version, due_row, due_nothing}
+use Prim.Native.Nat.{◌-◌}
+use lib.ListN.{drop, length-take}
 use mathlib.Core.Path.{sym}
 use native.Mathlib.Omega.{arith}
 use lib.Seq.{length-take-le}
+use Rattle.std.proofs.lemmas.Result.{err_from_is_err_and}
+use Rattle.report.proofs.LineSteps.{line_columns, line_unnamed, line_row, line_no_row, row_asks, line_bad, due_version, due_rows}
 use Rattle.report.proofs.line.take_other.Goals as goal
 
 pub returns-in-Version : goal.returns-in-Version
@@ -17,16 +20,23 @@ pub slice_bounds-name_columns-end : goal.slice_bounds-name_columns-end
 slice_bounds-name_columns-end c = omega (arith, c.requires.in_text)
 
 pub name_columns-requires : goal.name_columns-requires
-name_columns-requires c = c.requires.wide
+name_columns-requires c =
+    let args = c.args in
+    (c.requires.parts_are, omega (arith, c.requires.short, length-take (args.till - args.from) (drop args.from args.report.now)), c.requires.wide)
 
-pub returns-in-Columns : goal.returns-in-Columns
-returns-in-Columns c = line_columns c.in-Columns.is c.name_columns.ensures
+pub returns-in_ok-named-in-Columns : goal.returns-in_ok-named-in-Columns
+returns-in_ok-named-in-Columns c = line_columns c.in-Columns.is c.name_columns.ensures c.in_ok-named-in-Columns.was
 
-pub slice_bounds-data_line-end : goal.slice_bounds-data_line-end
-slice_bounds-data_line-end c = omega (arith, c.requires.wide, c.requires.known.few)
+pub returns-in_err-named-in-Columns : goal.returns-in_err-named-in-Columns
+returns-in_err-named-in-Columns c =
+    let p = err_from_is_err_and c.from_residual.result c.from_residual.ensures.1 in
+    rw (p.1, p.2) (line_unnamed c.in-Columns.is c.name_columns.ensures c.in_err-named-in-Columns.was)
 
-pub slice_bounds-data_line-end-in-Row : goal.slice_bounds-data_line-end-in-Row
-slice_bounds-data_line-end-in-Row c =
+pub slice_bounds-named-end : goal.slice_bounds-named-end
+slice_bounds-named-end c = omega (arith, c.requires.wide, c.requires.known.few)
+
+pub slice_bounds-named-end-in-Row : goal.slice_bounds-named-end-in-Row
+slice_bounds-named-end-in-Row c =
     let args = c.args in
     let pre = c.requires in
     sym (length-take-le args.state.columns args.columns.now (omega (arith, pre.wide, pre.known.few)))
@@ -34,20 +44,11 @@ slice_bounds-data_line-end-in-Row c =
 pub data_line-requires : goal.data_line-requires
 data_line-requires c = row_asks c.requires
 
-pub returns-in-Row : goal.returns-in-Row
-returns-in-Row c = line_row (due_row _ _ _ _ c.in-Row.is) c.data_line.ensures
+pub returns-in_ok-radar-in-Row : goal.returns-in_ok-radar-in-Row
+returns-in_ok-radar-in-Row c = line_row (due_rows _ _ _ _ c.in-Row.is c.rows.ensures) c.data_line.ensures c.in_ok-radar-in-Row.was
 
-pub slice_bounds-data_line-end-in-Nothing : goal.slice_bounds-data_line-end-in-Nothing
-slice_bounds-data_line-end-in-Nothing c = omega (arith, c.requires.wide, c.requires.known.few)
-
-pub slice_bounds-data_line-end-in-Nothing-2 : goal.slice_bounds-data_line-end-in-Nothing-2
-slice_bounds-data_line-end-in-Nothing-2 c =
-    let args = c.args in
-    let pre = c.requires in
-    sym (length-take-le args.state.columns args.columns.now (omega (arith, pre.wide, pre.known.few)))
-
-pub data_line-requires-in-Nothing : goal.data_line-requires-in-Nothing
-data_line-requires-in-Nothing c = row_asks c.requires
-
-pub returns-in-Nothing : goal.returns-in-Nothing
-returns-in-Nothing c = line_row (due_nothing _ _ _ _ c.in-Nothing.is) c.data_line-in-Nothing.ensures
+pub returns-in_err-radar-in-Row : goal.returns-in_err-radar-in-Row
+returns-in_err-radar-in-Row c =
+    let residual = c.from_residual-in_err-radar-in-Row in
+    let p = err_from_is_err_and residual.result residual.ensures.1 in
+    rw (p.1, p.2) (line_no_row (due_rows _ _ _ _ c.in-Row.is c.rows.ensures) c.data_line.ensures c.in_err-radar-in-Row.was)

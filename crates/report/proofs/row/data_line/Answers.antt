@@ -1,4 +1,5 @@
 use native.Mathlib.Omega.{arith}
+use Rattle.std.proofs.lemmas.Result.{err_from_is_err_and}
 use Rattle.report.proofs.RowLaws.{row_refused, row_many, row_count, fields_ask, wrong_of, row_fields, good_of, row_held}
 use Rattle.report.proofs.row.data_line.Goals as goal
 
@@ -11,24 +12,23 @@ returns-then-fields-columns c = row_refused (row_count c.requires c.if-k-ge-ROW_
 pub overflow_mul-base : goal.overflow_mul-base
 overflow_mul-base c = omega (arith, c.requires.room.starts_room)
 
-pub take_fields-taken-requires : goal.take_fields-taken-requires
-take_fields-taken-requires c = fields_ask c.requires c.if-k-ge-ROW_LIMIT.false
+pub take_fields-requires : goal.take_fields-requires
+take_fields-requires c = fields_ask c.requires c.if-k-ge-ROW_LIMIT.false c.if-fields-columns.false
 
-pub returns-in-Wrong : goal.returns-in-Wrong
-returns-in-Wrong c =
+pub returns-in_err-marks : goal.returns-in_err-marks
+returns-in_err-marks c =
     let pre = c.requires in
     let if1 = c.if-k-ge-ROW_LIMIT in
     let if2 = c.if-fields-columns in
-    let take-fields = c.take_fields-taken in
-    row_refused (row_fields pre if1.false if2.false (wrong_of take-fields.ensures c.in-Wrong.is))
+    let p = err_from_is_err_and c.from_residual.result c.from_residual.ensures.1 in
+    rw (p.1, p.2) (row_refused (row_fields pre if1.false if2.false (wrong_of c.take_fields.ensures c.in_err-marks.was)))
 
 pub bounds-sets-slot : goal.bounds-sets-slot
 bounds-sets-slot c = c.requires.room.sets_room
 
-pub returns-in-Good : goal.returns-in-Good
-returns-in-Good c =
+pub returns : goal.returns
+returns c =
     let pre = c.requires in
     let if1 = c.if-k-ge-ROW_LIMIT in
     let if2 = c.if-fields-columns in
-    let take-fields = c.take_fields-taken in
-    row_held pre if1.false if2.false (good_of take-fields.ensures c.in-Good.is) _ _ c.held.ensures
+    row_held pre if1.false if2.false (good_of c.take_fields.ensures c.in_ok-marks.was) _ c.held.ensures

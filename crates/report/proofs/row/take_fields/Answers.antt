@@ -1,8 +1,6 @@
-use lib.ListN.{drop, length-take}
-use Prim.Native.Nat.{◌-◌}
 use mathlib.Core.Path.{refl, sym, ◌∙◌}
 use native.Mathlib.Omega.{arith}
-use Rattle.report.proofs.RowLaws.{fill_start, field_bad, fields_done, fields_on, fields_end, entry_inside}
+use Rattle.report.proofs.RowLaws.{fill_start, field_bad, fields_on, fields_end, entry_inside, fields_fit}
 use Rattle.report.proofs.row.take_fields.Goals as goal
 
 pub slice_bounds-line-count : goal.slice_bounds-line-count
@@ -15,94 +13,37 @@ pub slice_bounds-line-end : goal.slice_bounds-line-end
 slice_bounds-line-end c = omega (arith, c.requires.in_text)
 
 pub loop-k-init : goal.loop-k-init
-loop-k-init c = fill_start _ _ _ _ _ _ _ _ refl
+loop-k-init c = fill_start _ _ _ _ _ _ _ _ c.requires.parts refl
 
-pub overflow_add-end : goal.overflow_add-end
-overflow_add-end c = omega (arith, c.field_at-field.ensures.fits c.loop-k.invariant.at_most, c.field_at-field.ensures.within)
-
-pub slice_bounds-value-end : goal.slice_bounds-value-end
-slice_bounds-value-end c = omega (arith, c.field_at-field.ensures.fits c.loop-k.invariant.at_most, c.field_at-field.ensures.within)
-
-pub overflow_cast-column : goal.overflow_cast-column
-overflow_cast-column c = omega (arith, c.requires.known c.loop-k.k c.loop-k-test.true)
-
-pub returns-in-Bad : goal.returns-in-Bad
-returns-in-Bad c =
-    let pre = c.requires in
-    let loop = c.loop-k in
-    let field_at = c.field_at-field in
-    let loop-test = c.loop-k-test in
-    let fault = c.fault-check in
-    record { case = field_bad pre loop.invariant field_at.ensures loop-test.true _ (sym c.in-Bad.is ∙ fault.ensures) }
+pub returns-in-Err : goal.returns-in-Err
+returns-in-Err c =
+    let fault = rw c.from-column.ensures at c.fault.ensures in
+    record { case = field_bad c.requires c.loop-k.invariant c.field_at-field.ensures c.loop-k-test.true _ (sym c.in-Err.is ∙ fault) }
 
 pub marked-marks-requires : goal.marked-marks-requires
-marked-marks-requires c =
-    let pre = c.requires in
-    let loop = c.loop-k in
-    let loop-test = c.loop-k-test in
-    pre.known loop.k loop-test.true
+marked-marks-requires c = rw c.from-column.ensures (c.requires.known c.loop-k.k c.loop-k-test.true)
 
 pub overflow_add-base : goal.overflow_add-base
-overflow_add-base c =
-    let pre = c.requires in
-    let loop = c.loop-k in
-    let loop-test = c.loop-k-test in
-    omega (arith, pre.known loop.k loop-test.true, pre.starts_room)
+overflow_add-base c = omega (arith, c.from-column.ensures, c.requires.known c.loop-k.k c.loop-k-test.true, c.requires.starts_room)
 
 pub overflow_add-from : goal.overflow_add-from
 overflow_add-from c =
-    let pre = c.requires in
-    let loop = c.loop-k in
-    let field_at = c.field_at-field in
-    let loop-test = c.loop-k-test in
-    omega (arith, pre.short, pre.order, (entry_inside pre loop.invariant field_at.ensures loop-test.true).2)
+    omega (arith, c.requires.short, c.requires.order, (entry_inside c.requires c.loop-k.invariant c.field_at-field.ensures c.loop-k-test.true).2)
 
 pub note-requires : goal.note-requires
-note-requires c =
-    let pre = c.requires in
-    let loop = c.loop-k in
-    let field_at = c.field_at-field in
-    let loop-test = c.loop-k-test in
-    entry_inside pre loop.invariant field_at.ensures loop-test.true
+note-requires c = rw c.from-column.ensures (entry_inside c.requires c.loop-k.invariant c.field_at-field.ensures c.loop-k-test.true)
 
 pub overflow_add-at : goal.overflow_add-at
-overflow_add-at c =
-    let field_at = c.field_at-field in
-    let loop = c.loop-k in
-    let args = c.args in
-    let pre = c.requires in
-    omega (arith, field_at.ensures.fits loop.invariant.at_most, length-take (args.till - args.from) (drop args.from args.report.now), pre.short)
-
-pub overflow_add-k : goal.overflow_add-k
-overflow_add-k c =
-    let loop-test = c.loop-k-test in
-    let pre = c.requires in
-    omega (arith, loop-test.true, pre.few)
-
-pub returns : goal.returns
-returns c = record { case = fields_end c.requires c.loop-k.invariant c.loop-k-test.false }
-
-pub returns-then-field-line : goal.returns-then-field-line
-returns-then-field-line c =
-    let pre = c.requires in
-    let loop = c.loop-k in
-    let field_at = c.field_at-field in
-    let loop-test = c.loop-k-test in
-    let fault = c.fault-check in
-    let marked = c.marked-marks in
-    let note = c.note in
-    record {
-      case = fields_done pre loop.invariant field_at.ensures loop-test.true (sym c.in_default.is ∙ fault.ensures) marked.ensures note.ensures.0 note.ensures.1 c.if-field-line.true;
-    }
+overflow_add-at c = omega (arith, (fields_fit c.requires c.loop-k.invariant c.field_at-field.ensures c.loop-k-test.true), c.requires.short)
 
 pub loop-k-preserved : goal.loop-k-preserved
 loop-k-preserved c =
-    let pre = c.requires in
-    let loop = c.loop-k in
-    let field_at = c.field_at-field in
-    let loop-test = c.loop-k-test in
-    let fault = c.fault-check in
-    let marked = c.marked-marks in
-    let note = c.note in
-    let if1 = c.if-field-line in
-    fields_on pre loop.invariant field_at.ensures loop-test.true (sym c.in_default.is ∙ fault.ensures) marked.ensures note.ensures.0 note.ensures.1 if1.false
+    let column = c.from-column.ensures in
+    let fine = rw column at c.fault.ensures in
+    let marked = rw column at c.marked-marks.ensures in
+    let start = rw column at c.note.ensures.0 in
+    let length = rw column at c.note.ensures.1 in
+    fields_on c.requires c.loop-k.invariant c.field_at-field.ensures c.loop-k-test.true (sym c.in_default.is ∙ fine) marked start length
+
+pub returns : goal.returns
+returns c = record { case = fields_end c.requires c.loop-k.invariant (omega (arith, c.loop-k-test.false)) }
