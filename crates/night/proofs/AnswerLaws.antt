@@ -15,9 +15,7 @@ use Rattle.element.specs.Observation.{Observation, is_radar, is_radar_set}
 use Rattle.element.specs.Table.{elements}
 use Rattle.element.proofs.Sets.{set_radar}
 use Rattle.report.specs.Report.{refused, read}
-use Rattle.report.specs.Index.{Index, rows_in, room_in, AcceptedIs, IndexIs, noted_value}
-use Rattle.report.specs.declared.answer.Checked.{Checked}
-use Rattle.report.proofs.AnswerLaws.{accepted_of}
+use Rattle.report.specs.Index.{Index, rows_in, AcceptedIs, noted_value}
 use Rattle.report.proofs.IndexLaws.{noted_value_lem}
 use Rattle.night.specs.Record.{fields_in, record_bytes, record_of}
 use Rattle.night.specs.List.{record_size, Done, done, list_with, written_answer, list_after}
@@ -108,13 +106,3 @@ module _ {report : List ℕ} (n : ℕ) {index : Index} {count : ℕ} (x : Accept
           ap (λ (bytes : List ℕ). list_with n bytes list) (fields_are k.0 k.1)
               ∙ rw x.is (rw (x.count, le-leb 1 n k.0, le-leb n count k.1, k.2, le-leb (n * record_size) (length list) k.3) refl),
         )
-
--- The lists of an index keep their lengths, and so their rows.
-pub rows_kept : (sets starts lengths sets' starts' lengths' : List ℕ) → length sets' ≡ length sets → length starts' ≡ length starts
-    → length lengths' ≡ length lengths → room_in sets starts lengths ≡ 1 → 0 < rows_in sets' starts' lengths'
-rows_kept sets starts lengths sets' starts' lengths' a b c r = rw (a, b, c) (omega (arith, r))
-
--- An index of one observation.
-pub accepted_one : {report : List ℕ} (n : ℕ) {room row : ℕ} {index : Index} {answer : Checked} {count : ℕ} → IndexIs report row room index answer
-    → answer ≡ Checked.Accepted count → row ≡ n - 1 → room ≡ 1 → AcceptedIs report (n - 1) 1 index count
-accepted_one n i e r o = rw (r, o) at (accepted_of i e)

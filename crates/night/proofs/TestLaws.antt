@@ -6,12 +6,11 @@ use mathlib.Core.List.{List}
 use native.Mathlib.Omega.{arith}
 use lib.Dec.{eqb, leb}
 use lib.ListN.{get_or, take, drop}
-use borrow.Author.Tests.{eq-eqb, ne_eqb, leb-true}
+use borrow.Author.Tests.{ne_eqb, leb-true}
 use lib.Seq.{take-take}
 use Rattle.std.specs.Prelude.{Some, None}
 use Rattle.text.proofs.Bools.{bools, both}
 use Rattle.text.specs.Numbered.{numbered}
-use Rattle.text.specs.Lines.{blank}
 use Rattle.text.specs.Output.{spelt}
 use Rattle.refusal.specs.Paper.{paper, request, refused_by, given}
 use Rattle.refusal.specs.declared.Kind.TheVariants.{NoObservation}
@@ -21,13 +20,6 @@ use Rattle.night.specs.Inner.{numbers_of, is_whole, is_within_numbers}
 use Rattle.night.proofs.Direct.{spelt_below, station_bytes, direct_is}
 use Rattle.night.proofs.Exact.{writable_record}
 use Rattle.night.proofs.ListExact.{record_long, list_exact, given_none, told_at}
-
--- A byte that is blank ends a three-letter station.
-pub three : (four : List ℕ) (b : ℕ) → b ≡ get_or four 3 0 → b ≡ blank → take 3 four ≡ unpadded four
-three four b e h = rw (← e, eq-eqb b blank h)
-
-pub not_three : (four : List ℕ) (b : ℕ) → b ≡ get_or four 3 0 → (b ≡ blank → ⊥) → four ≡ unpadded four
-not_three four b e h = rw (← e, ne_eqb b blank h)
 
 module _ (s : List ℕ) (byte : (k : ℕ) → get_or s k 0 < 256) where
   -- A number that is read from a place.

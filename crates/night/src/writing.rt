@@ -68,13 +68,8 @@ fn day_in(value: Value) -> i64
     ensures { result ≡ day_in value }
 {
     match value {
-        Value::Bad(_) => 0,
-        Value::NoValue => 0,
-        Value::Whole(_) => 0,
-        Value::Decimal(_, _) => 0,
         Value::Time(day, _) => day,
-        Value::Angle(_) => 0,
-        Value::Scaled(_, _, _, _) => 0,
+        _ => 0,
     }
 }
 
@@ -83,13 +78,8 @@ fn microseconds_in(value: Value) -> u64
     ensures { result ≡ microseconds_in value }
 {
     match value {
-        Value::Bad(_) => 0,
-        Value::NoValue => 0,
-        Value::Whole(_) => 0,
-        Value::Decimal(_, _) => 0,
         Value::Time(_, microseconds) => microseconds,
-        Value::Angle(_) => 0,
-        Value::Scaled(_, _, _, _) => 0,
+        _ => 0,
     }
 }
 
@@ -98,12 +88,7 @@ fn units_in(value: Value) -> i64
     ensures { result ≡ units_in value }
 {
     match value {
-        Value::Bad(_) => 0,
-        Value::NoValue => 0,
-        Value::Whole(_) => 0,
-        Value::Decimal(_, _) => 0,
-        Value::Time(_, _) => 0,
         Value::Angle(units) => units,
-        Value::Scaled(_, _, _, _) => 0,
+        _ => 0,
     }
 }

@@ -4,6 +4,4 @@ use Rattle.night.proofs.TestLaws.{number_is}
 use Rattle.night.proofs.record.number_at.Goals as goal
 
 pub returns : goal.returns
-returns c =
-    let start = c in
-    number_is start.args.bytes.now (λ k. omega (arith, c.shared_slice_known-1.given k)) start.args.from start.args.count start.requires c.tail.ensures c.low.ensures
+returns c = number_is c.args.bytes.now (λ k. omega (arith, c.type_inv.bytes k)) c.args.from c.args.count c.requires c.tail.ensures c.low.ensures
