@@ -57,9 +57,9 @@ module _ (known : Head) (more : ℕ) (is : known ≡ head_of known.columns) wher
         → ◌≡◌ {A = Head} (record { columns = columns; count = n; bytes = known.bytes - known.count + names + n }) (head_of columns)
     head_grown n d = λ i. record { columns = columns; count = d i; bytes = names_are i + d i }
 
-pub ruleset head-needs = (head_fits, lines_fit, head_made)
+pub ruleset head_needs = (head_fits, lines_fit, head_made)
 
-pub ruleset after-needs = (or_above, head_kept, count_within, grown_fits, grown_lines_fit, head_grown)
+pub ruleset after_needs = (or_above, head_kept, count_within, grown_fits, grown_lines_fit, head_grown)
 
 -- The bytes of a block with a head of columns that a number of the machine holds.
 module _ (head : Head) (values rows : ℕ) (is : head ≡ head_of head.columns) (c : head.columns < 2 ^ 64) (v : values ≤ most_bytes) (r : rows ≤ most_rows) where

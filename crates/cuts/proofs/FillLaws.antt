@@ -143,7 +143,7 @@ module _ (runs : List Row) (costs firsts : List ℕ) (fit : Fit runs costs first
         ∙ ap (λ (n : ℕ). drop n costs) (sym (add-one j)) in
         subst₂ (λ (l : List Row) (c : List ℕ). TailIs l c found.tail) (end_is runs j) (end_is costs (j + 1) ∙ sym kept) s.tail
 
-pub ruleset fill-needs = (end_small, tail_lent, best_fits, best_narrow, fill_step, tail_step)
+pub ruleset fill_needs = (end_small, tail_lent, best_fits, best_narrow, fill_step, tail_step)
 
 -- ---- the loop over all runs
 
@@ -195,4 +195,4 @@ pub filled_all : (more : Row → List Row → ℕ) (runs : List Row) (i : ℕ) (
 filled_all more runs zero costs firsts h f = record { costs_are = f.costs_are; firsts_are = f.firsts_are }
 filled_all more runs (suc i) costs firsts h f = absurd (omega arith)
 
-pub ruleset fill-all-needs = (fill_end, tail_end, fit_filled, costs_kept, firsts_kept, filled_all)
+pub ruleset fill_all_needs = (fill_end, tail_end, fit_filled, costs_kept, firsts_kept, filled_all)

@@ -260,8 +260,8 @@ module _ (runs : List Row) (after : List ℕ) (columns : ℕ) (all : columns ≡
       go k f (yes g) = g
       go k f (no g) = absurd (s.soon k (omega arith) f)
 
-pub ruleset first-needs = (head_own, start_small, start_few, cost_fits, start_looked)
+pub ruleset first_needs = (head_own, start_small, start_few, cost_fits, start_looked)
 
-pub ruleset anew-needs = (head_known, values_small, rows_few, end_after, cost_fits, anew_looked)
+pub ruleset anew_needs = (head_known, values_small, rows_few, end_after, cost_fits, anew_looked)
 
-pub ruleset further-needs = (head_own, head_known, step_small, values_fit, step_few, rows_fit, step_after, cost_fits, step_take, step_leave)
+pub ruleset further_needs = (head_own, head_known, step_small, values_fit, step_few, rows_fit, step_after, cost_fits, step_take, step_leave)

@@ -80,4 +80,4 @@ module _ (runs : List Row) (before costs₀ firsts₀ : List ℕ) (ready : Ready
         → PlannedRuns more runs (record { blocks = n; bytes = get_or (costs ++ costsAfter) 0 0 }) before after
     planned_runs n after e k h l = record { within = omega (arith, again_firsts, ready.room); cut = e ∙ is_cut; bytes = is_best; kept = k }
 
-pub ruleset plan-needs = (part_costs, part_firsts, ready_fit, again_firsts, again_walk, planned_runs)
+pub ruleset plan_needs = (part_costs, part_firsts, ready_fit, again_firsts, again_walk, planned_runs)

@@ -60,7 +60,7 @@ module _ (marks sets sizes cuts : List ℕ) (b : Bool) (is : b ≡ ready marks s
       subst (λ (t : Bool). Answered t (marked_rows marks sets sizes) (record { blocks = 0; bytes = 0 }) cuts cuts) (sym e ∙ is)
       (record { blocks = refl; bytes = refl; kept = refl })
 
-pub ruleset promise-needs = (is_marked, is_ready, is_planned, is_unplanned)
+pub ruleset promise_needs = (is_marked, is_ready, is_planned, is_unplanned)
 
 -- ---- the lists
 
@@ -71,4 +71,4 @@ runs_few sets sizes cuts n ready e h = omega (arith, press_count sets sizes read
 pub runs_within : (sets sizes cuts : List ℕ) → Ready sets sizes cuts → length (press (rows_of sets sizes)) ≤ most_rows
 runs_within sets sizes cuts ready = omega (arith, press_short (rows_of sets sizes), rows_few sets sizes, ready.few)
 
-pub ruleset list-needs = (runs_few, runs_within)
+pub ruleset list_needs = (runs_few, runs_within)

@@ -110,4 +110,4 @@ costs_room runs costs j e = omega (arith, ap length (end_is runs j), length-drop
 pub firsts_room : (runs : List Row) (firsts : List ℕ) (j : ℕ) → length firsts ≡ length runs → length (end runs j) ≤ length firsts
 firsts_room runs firsts j e = omega (arith, ap length (end_is runs j), length-drop j runs)
 
-pub ruleset rows-plan-needs = (ready_runs, costs_room, firsts_room, planned)
+pub ruleset rows_plan_needs = (ready_runs, costs_room, firsts_room, planned)

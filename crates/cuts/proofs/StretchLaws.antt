@@ -250,4 +250,4 @@ all_planned marks sets sizes before at blocks bytes cuts e h ready b =
       kept = b.kept;
     }
 
-pub ruleset stretch-needs = (none_begun, part_ready, blocks_fit, begun_more, all_planned)
+pub ruleset stretch_needs = (none_begun, part_ready, blocks_fit, begun_more, all_planned)

@@ -146,7 +146,7 @@ module _ (runs : List Row) (after : List ℕ) (small : Small runs after) (tail :
   pub passed_none : Passed runs after (record { head = tail.head; from = length runs; best = 0; cost = 0 })
   passed_none = record { within = omega arith; ends = λ h. absurd (omega arith) }
 
-pub ruleset pass-needs = (from_fits, best_fits, size_fits, cells_fit, cost_fits, passed_on, passed_none)
+pub ruleset pass_needs = (from_fits, best_fits, size_fits, cells_fit, cost_fits, passed_on, passed_none)
 
 -- ---- the best of all ends
 
@@ -262,7 +262,7 @@ module _ (far : Look) (passed : Tail) (runs : ℕ) where
   pub tail_alone : runs ≤ passed.from → tail_with far far.best far.cost ≡ tail_of far passed runs
   tail_alone h = rw (le-ltb passed.from runs h)
 
-pub ruleset tail-needs = (tail_passed, tail_looked, tail_alone)
+pub ruleset tail_needs = (tail_passed, tail_looked, tail_alone)
 
 pub found_tail : (near : Look) (tail : Tail) → tail.cost ≤ near.cost → found_if true near tail ≡ found_of near tail
 found_tail near tail h = rw (le-leb tail.cost near.cost h)
@@ -270,4 +270,4 @@ found_tail near tail h = rw (le-leb tail.cost near.cost h)
 pub found_near : (near : Look) (tail : Tail) → near.cost < tail.cost → found_if false near tail ≡ found_of near tail
 found_near near tail h = rw (lt-leb tail.cost near.cost h)
 
-pub ruleset found-needs = (found_tail, found_near)
+pub ruleset found_needs = (found_tail, found_near)

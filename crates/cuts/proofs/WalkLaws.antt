@@ -110,6 +110,6 @@ walk_passes runs firsts out₀ out i v l h z r = walk_inside runs firsts out₀ 
 pub walk_keeps : (runs : List Row) (firsts out₀ out : List ℕ) (i : ℕ) (w : Walk) → Walkable runs firsts out₀ → Written runs firsts out₀ i w out → Walkable runs firsts out
 walk_keeps runs firsts out₀ out i w l v = record { same = l.same; room = omega (arith, l.room, v.same); few = l.few }
 
-pub ruleset walk-needs = (part_few, walk_takes, walk_passes)
+pub ruleset walk_needs = (part_few, walk_takes, walk_passes)
 
-pub ruleset write-needs = (walk_start, walk_end, walk_few, walk_keeps)
+pub ruleset write_needs = (walk_start, walk_end, walk_few, walk_keeps)

@@ -6,9 +6,6 @@ use Rattle.cuts.proofs.block.block_bytes.Goals as goal
 pub overflow_add-result : goal.overflow_add-result
 overflow_add-result c = search (rules, block_needs)
 
-pub overflow_mul-result : goal.overflow_mul-result
-overflow_mul-result c = search (rules, block_needs)
-
 pub overflow_add-result-2 : goal.overflow_add-result-2
 overflow_add-result-2 c = search (rules, block_needs)
 
