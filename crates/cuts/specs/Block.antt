@@ -3,9 +3,12 @@ use Rattle.std.specs.Prelude.{List, [], ◌∷◌, ℕ, ◌+◌, ◌*◌, length
 use Rattle.std.specs.Int.Bits.{bit_or}
 use Rattle.std.specs.Int.Count.{ones}
 use Rattle.element.specs.Set.{name_bytes}
+use Rattle.cuts.specs.declared.block.Row.{Row as RowStruct}
+
 -- A row, a struct of the code: the set of its present elements, the bytes of its values, and how many rows of the report it stands for:
 -- 1, or more for a run of rows with one set.
-pub use Rattle.cuts.specs.declared.block.Row.{Row}
+abbrev pub Row : Type 0
+Row = RowStruct
 
 -- The most rows that the search can cut. This is a bound of its own, not the reader's limit on data lines.
 abbrev pub most_rows : ℕ
