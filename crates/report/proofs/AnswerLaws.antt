@@ -25,38 +25,30 @@ use Rattle.element.proofs.Sets.{has_set}
 use Rattle.report.specs.Report.{Outcome, accepted, refused, read}
 use Rattle.report.specs.Starts.{starts_in}
 use Rattle.report.specs.Answers.{checked_paper, checked_answer, is_observation, is_element, value_at, start_at, shown_of, showing_paper, showing_answer, exact, valued_answer}
-use Rattle.report.specs.Index.{Index, room_in, Noted, AcceptedIs, IndexCase, IndexIs}
-use Rattle.report.specs.Inner.{Room, slot_shown, LocatedIs}
+use Rattle.report.specs.Index.{row_at, Noted, AcceptedIs, IndexCase, IndexIs}
+use Rattle.report.specs.Inner.{shown_in, LocatedIs}
+use Rattle.report.specs.declared.index.Row.{Row}
 
 -- The answer to a check is what the report reads as.
-pub checked_is : {t : List ℕ} {first room : ℕ} {x : Index} {r : Result ℕ Refusal} → IndexIs t first room x r → checked_paper r ≡ checked_answer (read t)
+pub checked_is : {t : List ℕ} {first room : ℕ} {x : List Row} {r : Result ℕ Refusal} → IndexIs t first room x r → checked_paper r ≡ checked_answer (read t)
 checked_is {t} {first} {room} {x} {r} i = go r i.case
   where
     go : (r : Result ℕ Refusal) → IndexCase t first room x r → checked_paper r ≡ checked_answer (read t)
     go (Ok k) a = rw (a.is, a.count)
     go (Err y) e = rw e
 
--- Where there is no room for a row, nothing of the lists matters.
-pub unnoted : {t : List ℕ} {first : ℕ} {x : Index} {r : Result ℕ Refusal} → IndexIs t first 0 x r → {first' room' : ℕ} {y : Index} → room' ≡ 0 → IndexIs t first' room' y r
+-- Where there is no room for a row, nothing of the rows matters.
+pub unnoted : {t : List ℕ} {first : ℕ} {x : List Row} {r : Result ℕ Refusal} → IndexIs t first 0 x r → {first' room' : ℕ} {y : List Row} → room' ≡ 0 → IndexIs t first' room' y r
 unnoted {t} {first} {x} {r} i {first'} {room'} {y} e = record { case = go r i.case }
   where
     go : (r : Result ℕ Refusal) → IndexCase t first 0 x r → IndexCase t first' room' y r
-    go (Ok k) a = record { rows = a.rows; is = a.is; count = a.count; few = a.few; noted = λ j h. absurd (omega arith) }
+    go (Ok k) a = record { observations = a.observations; is = a.is; count = a.count; few = a.few; noted = λ j h. absurd (omega arith) }
     go (Err z) q = q
 
--- The lists that are lent hold rows from 0 to one less than their number.
-pub index_room : {x : Index} {rows : ℕ} → rows ≡ min (length x.sets) (min (length x.starts / elements) (length x.lengths / elements)) → (rows ≡ 0 → ⊥) → Room x (rows - 1)
-index_room e n = record { sets_room = omega (arith, e, n); starts_room = omega (arith, e, n); lengths_room = omega (arith, e, n) }
-
-pub indexed : (x : Index) {t : List ℕ} {first rows : ℕ} {y : Index} {r : Result ℕ Refusal}
-    → rows ≡ min (length x.sets) (min (length x.starts / elements) (length x.lengths / elements))
-    → IndexIs t first (rows - 1) y r → IndexIs t first (room_in x.sets x.starts x.lengths) y r
-indexed x e i = rw (← e) i
-
-pub accepted_of : {t : List ℕ} {first room : ℕ} {x : Index} {r : Result ℕ Refusal} → IndexIs t first room x r → {k : ℕ} → r ≡ Ok k → AcceptedIs t first room x k
+pub accepted_of : {t : List ℕ} {first room : ℕ} {x : List Row} {r : Result ℕ Refusal} → IndexIs t first room x r → {k : ℕ} → r ≡ Ok k → AcceptedIs t first room x k
 accepted_of i e = rw e at i.case
 
-pub refused_of : {t : List ℕ} {first room : ℕ} {x : Index} {r : Result ℕ Refusal} → IndexIs t first room x r → {z : Refusal} → r ≡ Err z → read t ≡ refused z
+pub refused_of : {t : List ℕ} {first room : ℕ} {x : List Row} {r : Result ℕ Refusal} → IndexIs t first room x r → {z : Refusal} → r ≡ Err z → read t ≡ refused z
 refused_of i e = rw e at i.case
 
 -- ---- where a value lies
@@ -93,7 +85,7 @@ element_from e h = (inside e elements h).0
 pub element_low : (e : ℕ) → (ltb e 1 || ltb elements e) ≡ false → e - 1 < elements
 element_low e h = omega (arith, inside e elements h)
 
-module _ {t : List ℕ} (n e : ℕ) {first : ℕ} {x : Index} {k : ℕ} (a : AcceptedIs t first 1 x k) where
+module _ {t : List ℕ} (n e : ℕ) {first : ℕ} {x : List Row} {k : ℕ} (a : AcceptedIs t first 1 x k) where
   pub located_none : (ltb n 1 || ltb k n) ≡ true → {r : Result (Option Span) Refusal} → r ≡ Err (request NoObservation) → LocatedIs t n e r
   located_none h q = record { is = rw (a.is, a.count, outside n k h) (ap showing_paper q); lies = λ span g. absurd (at_refused (ap showing_paper (sym q ∙ g))) }
 
@@ -105,34 +97,33 @@ module _ {t : List ℕ} (n e : ℕ) {first : ℕ} {x : Index} {k : ℕ} (a : Acc
     }
 
     module _ (he : (ltb e 1 || ltb elements e) ≡ false) (f : first ≡ n - 1) where
-      note : Noted t x 0 (get_or a.rows (n - 1) []) (get_or (starts_in t) (n - 1) [])
+      note : Noted t (row_at x 0) (get_or a.observations (n - 1) []) (get_or (starts_in t) (n - 1) [])
       note =
           let z : first + 0 ≡ n - 1 = omega arith in
           rw z at (a.noted 0 (omega arith) (omega (arith, inside n k hn)))
 
-      bit_is : eqb (get_or x.sets 0 0 / 2 ^ (e - 1) % 2) 1 ≡ is_present (value_at a.rows n e)
-      bit_is = rw (note.set_is, has_set (get_or a.rows (n - 1) []) (e - 1)) (test (is_present (value_at a.rows n e)))
+      bit_is : eqb ((row_at x 0).present / 2 ^ (e - 1) % 2) 1 ≡ is_present (value_at a.observations n e)
+      bit_is = rw (note.set_is, has_set (get_or a.observations (n - 1) []) (e - 1)) (test (is_present (value_at a.observations n e)))
         where
           test : (b : Bool) → eqb (bit b) 1 ≡ b
           test true = refl
           test false = refl
 
-      pub located_noted : {r : Result (Option Span) Refusal} → r ≡ Ok (slot_shown x.sets x.starts x.lengths (e - 1)) → LocatedIs t n e r
-      unfolding slot_shown
-      located_noted {r} q = bools (is_present (value_at a.rows n e)) here gone
+      pub located_noted : {r : Result (Option Span) Refusal} → r ≡ Ok (shown_in (row_at x 0) (e - 1)) → LocatedIs t n e r
+      unfolding shown_in
+      located_noted {r} q = bools (is_present (value_at a.observations n e)) here gone
         where
           known : showing_answer (read t) (starts_in t) n e
-              ≡ cond (is_present (value_at a.rows n e)) (given (start_at (starts_in t) n e, length (value_at a.rows n e))) absent
+              ≡ cond (is_present (value_at a.observations n e)) (given (start_at (starts_in t) n e, length (value_at a.observations n e))) absent
           known = rw (a.is, a.count, inside_is n k (inside n k hn), inside_is e elements (inside e elements he))
 
-          shown_known : shown_of (read t) n e ≡ value_at a.rows n e
+          shown_known : shown_of (read t) n e ≡ value_at a.observations n e
           shown_known = rw (a.is, a.count, inside_is n k (inside n k hn), inside_is e elements (inside e elements he))
 
-          here : is_present (value_at a.rows n e) ≡ true → LocatedIs t n e r
+          here : is_present (value_at a.observations n e) ≡ true → LocatedIs t n e r
           here p =
-              let z : 0 * elements + (e - 1) ≡ e - 1 = omega arith in
-              let s = rw z at (note.shows (e - 1) (element_low e he) p) in
-              let there : Span = record { start = start_at (starts_in t) n e; length = length (value_at a.rows n e) } in
+              let s = note.shows (e - 1) (element_low e he) p in
+              let there : Span = record { start = start_at (starts_in t) n e; length = length (value_at a.observations n e) } in
               let g : r ≡ Ok (Some there) = q ∙ rw (bit_is, p, s.start_is, s.length_is) in
               record {
                 is = rw (known, p) (ap showing_paper g);
@@ -142,7 +133,7 @@ module _ {t : List ℕ} (n e : ℕ) {first : ℕ} {x : Index} {k : ℕ} (a : Acc
                     rw (← z, shown_known) (s.inside, s.holds);
               }
 
-          gone : is_present (value_at a.rows n e) ≡ false → LocatedIs t n e r
+          gone : is_present (value_at a.observations n e) ≡ false → LocatedIs t n e r
           gone p =
               let g : r ≡ Ok None = q ∙ rw (bit_is, p) in
               record { is = rw (known, p) (ap showing_paper g); lies = λ span y. absurd (at_absent (ap showing_paper (sym g ∙ y))) }

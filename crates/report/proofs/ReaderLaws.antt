@@ -4,8 +4,8 @@ use mathlib.Core.Path.{◌≡◌, refl, ap, sym, ◌∙◌}
 use mathlib.Core.List.{List, [], ◌∷◌, ◌++◌, append_assoc, append-nil}
 use mathlib.Core.Bool.{Bool, false}
 use lib.Dec.{eqb, ltb, leb}
-use lib.ListN.{length, take, drop, get_or, length-drop, length-take, length-append, drop_of_length-le, get_or-append}
-use lib.Seq.{drop-drop, get_or-append-add}
+use lib.ListN.{length, take, drop, get_or, set, length-set, length-drop, length-take, length-append, drop_of_length-le, get_or-append}
+use lib.Seq.{drop-drop, get_or-append-add, get_or-set_same, get_or-set_other}
 use borrow.Author.Tests.{le-ltb, lt-ltb, le-leb, leb-true, ltb-true, ltb-false, eqb-true, eqb-false}
 use native.Mathlib.Omega.{arith}
 use native.Mathlib.Numerals.{add-one}
@@ -21,8 +21,9 @@ use Rattle.element.specs.Table.{elements}
 use Rattle.element.specs.Observation.{Observation}
 use Rattle.report.specs.Report.{bad, Outcome, accepted, refused, more, at_end, after, read_from, begin, read, text_limit, row_limit}
 use Rattle.report.specs.Starts.{starts_after, starts_from, starts_in, starts_of}
-use Rattle.report.specs.Index.{Index, Noted, AcceptedIs, IndexCase, IndexIs}
-use Rattle.report.specs.Inner.{between, state_of, Known, Room, KeptBut, NextIs, RowTaken, LineAsks, TookLine, step_at, slot_of, checked_at}
+use Rattle.report.specs.Index.{row_at, Noted, AcceptedIs, IndexCase, IndexIs}
+use Rattle.report.specs.declared.index.Row.{Row}
+use Rattle.report.specs.Inner.{between, state_of, Known, NextIs, RowTaken, LineAsks, TookLine, step_at, slot_of, checked_at}
 use Rattle.report.specs.declared.state.Need.{Need}
 use Rattle.report.specs.declared.state.State.{State as CodeState}
 use Rattle.report.specs.declared.state.Taken.{Taken}
@@ -52,7 +53,7 @@ read_short : (t : List ℕ) → length t ≤ text_limit → read t ≡ read_from
 unfolding read
 read_short t h = rw (le-ltb text_limit (length t) h)
 
-pub read_long : {t : List ℕ} {first room : ℕ} {x : Index} {r : Result ℕ Refusal} → text_limit < length t
+pub read_long : {t : List ℕ} {first room : ℕ} {x : List Row} {r : Result ℕ Refusal} → text_limit < length t
     → r ≡ Err (record { kind = TextTooLong; line = 0; place = 0 }) → IndexIs t first room x r
 unfolding read
 read_long {t} h e = record { case = rw (e, lt-ltb text_limit (length t) h) }
@@ -77,47 +78,41 @@ slot_other first room k i h b =
     (λ p. bools (ltb (k - first) room) (λ q. rw (p, q) (λ e. omega (arith, leb-true first k p))) (λ q. rw (p, q) (λ e. omega arith)))
     (λ p. rw p (λ e. omega arith))
 
--- What is kept outside the slot's row is noted still.
-noted_kept : {t : List ℕ} {x y : Index} {slot : ℕ} → KeptBut x y slot → (i : ℕ) → (i ≡ slot → ⊥) → {o : Observation} {at : List ℕ} → Noted t x i o at → Noted t y i o at
-noted_kept {t} {x} {y} {slot} k i n {o} {at} v = record {
-  set_is = k.sets_kept i n ∙ v.set_is;
-  shows = λ e h g.
-      let s = v.shows e h g in
-      let p : (get_or y.starts (i * elements + e) 0 ≡ get_or x.starts (i * elements + e) 0) × (get_or y.lengths (i * elements + e) 0 ≡ get_or x.lengths (i * elements + e) 0) =
-      bools (ltb i slot)
-      (λ q.
-      let b : i * elements + e < slot * elements = omega (arith, ltb-true i slot q) in
-      (k.starts_kept.0 (i * elements + e) b, k.lengths_kept.0 (i * elements + e) b))
-      (λ q.
-      let b : slot * elements + elements ≤ i * elements + e = omega (arith, ltb-false i slot q, n) in
-      (k.starts_kept.1 (i * elements + e) b, k.lengths_kept.1 (i * elements + e) b)) in
-      record { start_is = p.0 ∙ s.start_is; length_is = p.1 ∙ s.length_is; inside = s.inside; holds = s.holds };
-}
+-- A row that was written is the row of its number, and the others stay.
+row_own : (rows : List Row) (slot : ℕ) (y : Row) → slot < length rows → row_at (set rows slot y) slot ≡ y
+row_own rows slot y h = get_or-set_same rows slot y _ h
+
+row_other : (rows : List Row) (slot i : ℕ) (y : Row) → (i ≡ slot → ⊥) → row_at (set rows slot y) i ≡ row_at rows i
+row_other rows slot i y n = get_or-set_other rows slot i y _ n
+
+-- A row that is written as it was leaves every row.
+row_same : (rows : List Row) (slot i : ℕ) {y : Row} → slot < length rows → y ≡ row_at rows slot → row_at (set rows slot y) i ≡ row_at rows i
+row_same rows slot i {y} h e =
+    bools (eqb i slot)
+    (λ q. let z : i ≡ slot = eqb-true i slot q in rw z (row_own rows slot y h ∙ e))
+    (λ q. row_other rows slot i y (eqb-false i slot q))
 
 -- ---- the loop
 
 -- The observations so far and where their values start; those that have a row of their own are noted there.
-pub record Reading (t columns : List ℕ) (first room : ℕ) (x₀ x : Index) (at number k : ℕ) (s : CodeState) : Type 0 where
+pub record Reading (t columns : List ℕ) (first room : ℕ) (rows : List Row) (at number k : ℕ) (s : CodeState) : Type 0 where
   pub at_most : at ≤ length t
   pub short : length t ≤ text_limit
   pub lines_few : number ≤ at + 1
   pub rows_few : k ≤ row_limit
   pub wide : length columns ≡ elements
   pub known : Known s columns
-  pub room_is : Room x room
-  pub sets_long : length x.sets ≡ length x₀.sets
-  pub starts_long : length x.starts ≡ length x₀.starts
-  pub lengths_long : length x.lengths ≡ length x₀.lengths
-  pub rows : List Observation
-  pub count : length rows ≡ k
+  pub room_is : room < length rows
+  pub observations : List Observation
+  pub count : length observations ≡ k
   pub spots : List (List ℕ)
   pub spots_count : length spots ≡ k
-  pub noted : (i : ℕ) → i < room → first + i < k → Noted t x i (get_or rows (first + i) []) (get_or spots (first + i) [])
-  pub rest : read_from begin 1 0 (lines t) ≡ prefix rows (read_from (state_of s columns) number k (lines (drop at t)))
+  pub noted : (i : ℕ) → i < room → first + i < k → Noted t (row_at rows i) (get_or observations (first + i) []) (get_or spots (first + i) [])
+  pub rest : read_from begin 1 0 (lines t) ≡ prefix observations (read_from (state_of s columns) number k (lines (drop at t)))
   pub left : starts_from begin 0 0 (lines t) ≡ spots ++ starts_from (state_of s columns) at k (lines (drop at t))
 
-pub read_start : {t columns : List ℕ} {first room : ℕ} {x : Index} → length columns ≡ elements → length t ≤ text_limit → Room x room
-    → Reading t columns first room x x 0 1 0 (record { need = Need.Version; columns = 0; radar = false })
+pub read_start : {t columns : List ℕ} {first room : ℕ} {rows : List Row} → length columns ≡ elements → length t ≤ text_limit → room < length rows
+    → Reading t columns first room rows 0 1 0 (record { need = Need.Version; columns = 0; radar = false })
 read_start w h a = record {
   at_most = omega arith;
   short = h;
@@ -126,10 +121,7 @@ read_start w h a = record {
   wide = w;
   known = record { few = omega arith; known = λ j b. absurd (omega arith) };
   room_is = a;
-  sets_long = refl;
-  starts_long = refl;
-  lengths_long = refl;
-  rows = [];
+  observations = [];
   count = refl;
   spots = [];
   spots_count = refl;
@@ -138,9 +130,9 @@ read_start w h a = record {
   left = refl;
 }
 
-module _ {t columns : List ℕ} {first room : ℕ} {x₀ x : Index} {at number k : ℕ} {s : CodeState} (v : Reading t columns first room x₀ x at number k s) where
+module _ {t columns : List ℕ} {first room : ℕ} {rows : List Row} {at number k : ℕ} {s : CodeState} (v : Reading t columns first room rows at number k s) where
   -- the end of the text
-  read_end : length t ≤ at → read t ≡ prefix v.rows (at_end s.need number)
+  read_end : length t ≤ at → read t ≡ prefix v.observations (at_end s.need number)
   unfolding read_from
   read_end h = read_short t v.short ∙ (v.rest ∙ rw (drop_of_length-le t h))
 
@@ -148,22 +140,22 @@ module _ {t columns : List ℕ} {first room : ℕ} {x₀ x : Index} {at number k
   unfolding starts_in starts_from
   spots_end h = v.left ∙ (rw (drop_of_length-le t h) (append-nil v.spots))
 
-  read_done : length t ≤ at → at_end s.need number ≡ accepted [] → AcceptedIs t first room x k
+  read_done : length t ≤ at → at_end s.need number ≡ accepted [] → AcceptedIs t first room rows k
   read_done h e = record {
-    rows = v.rows;
-    is = read_end h ∙ (ap (λ (o : Outcome). prefix v.rows o) e ∙ prefix_accepted v.rows);
+    observations = v.observations;
+    is = read_end h ∙ (ap (λ (o : Outcome). prefix v.observations o) e ∙ prefix_accepted v.observations);
     count = v.count;
     few = v.rows_few;
     noted = λ i a b. rw (spots_end h) (v.noted i a b);
   }
 
-  pub read_ends : length t ≤ at → {r : Result ℕ Refusal} → r ≡ checked_at s.need number k → IndexIs t first room x r
+  pub read_ends : length t ≤ at → {r : Result ℕ Refusal} → r ≡ checked_at s.need number k → IndexIs t first room rows r
   read_ends h {r} e = record { case = rw e (go s.need refl) }
     where
-      go : (need : Need) → s.need ≡ need → IndexCase t first room x (checked_at need number k)
+      go : (need : Need) → s.need ≡ need → IndexCase t first room rows (checked_at need number k)
       go Need.Version q = read_done h (ap (λ (n : Need). at_end n number) q)
-      go Need.Columns q = read_end h ∙ (ap (λ (n : Need). prefix v.rows (at_end n number)) q ∙ prefix_refused v.rows _)
-      go Need.Row q = read_end h ∙ (ap (λ (n : Need). prefix v.rows (at_end n number)) q ∙ prefix_refused v.rows _)
+      go Need.Columns q = read_end h ∙ (ap (λ (n : Need). prefix v.observations (at_end n number)) q ∙ prefix_refused v.observations _)
+      go Need.Row q = read_end h ∙ (ap (λ (n : Need). prefix v.observations (at_end n number)) q ∙ prefix_refused v.observations _)
       go Need.Nothing q = read_done h (ap (λ (n : Need). at_end n number) q)
 
   module _ (h : at < length t) {size : ℕ} {right : Bool} {parts : ℕ} (c : ScannedIs (take (length t - at) (drop at t)) size right parts) where
@@ -171,11 +163,11 @@ module _ {t columns : List ℕ} {first room : ℕ} {x₀ x : Index} {at number k
     size_is = c.size_is ∙ ap (λ (l : List ℕ). up_to 10 l) (rest_of t at v.at_most)
 
     -- bytes with no LF after them
-    pub read_cut : at + size ≡ length t → {r : Result ℕ Refusal} → r ≡ Err (record { kind = NoLineEnd; line = number; place = 0 }) → IndexIs t first room x r
+    pub read_cut : at + size ≡ length t → {r : Result ℕ Refusal} → r ≡ Err (record { kind = NoLineEnd; line = number; place = 0 }) → IndexIs t first room rows r
     unfolding read_from
     read_cut q e =
         let g = lines_cut_off (drop at t) (omega (arith, length-drop at t)) (omega (arith, size_is, length-drop at t)) in
-        record { case = rw e (read_short t v.short ∙ (v.rest ∙ rw g (prefix_refused v.rows _))) }
+        record { case = rw e (read_short t v.short ∙ (v.rest ∙ rw g (prefix_refused v.observations _))) }
 
     pub line_fits : at + size ≤ length t
     line_fits = omega (arith, size_is, up_to_le 10 (drop at t), length-drop at t)
@@ -190,19 +182,14 @@ module _ {t columns : List ℕ} {first room : ℕ} {x₀ x : Index} {at number k
           let d : at + size - at ≡ size = omega arith in
           rw (d, size_is) (first_line_lem (drop at t))
 
-      pub line_asks : {slot : ℕ} → slot ≤ room → LineAsks t columns x at (at + size) parts slot s × (right ≡ printable (between t at (at + size)))
-      line_asks b =
+      pub line_asks : LineAsks t columns at (at + size) parts s × (right ≡ printable (between t at (at + size)))
+      line_asks =
           let r = rest_of t at v.at_most in (
             record {
               order = omega arith;
               in_text = inside;
               short = omega (arith, inside, v.short);
               parts_are = c.parts_is ∙ ap (λ (l : List ℕ). length (fields l)) (ap (λ (l : List ℕ). first_line l) r ∙ sym line_is);
-              room = record {
-                sets_room = omega (arith, v.room_is.sets_room);
-                starts_room = omega (arith, v.room_is.starts_room);
-                lengths_room = omega (arith, v.room_is.lengths_room);
-              };
               wide = omega (arith, v.wide);
               known = v.known;
             },
@@ -219,7 +206,7 @@ module _ {t columns : List ℕ} {first room : ℕ} {x₀ x : Index} {at number k
       line_long = omega (arith, length-take (at + size - at) (drop at t), length-drop at t, inside)
 
       on : read_from begin 1 0 (lines t)
-          ≡ prefix v.rows (after (step_at t at (at + size) s columns k) number (state_of s columns) k
+          ≡ prefix v.observations (after (step_at t at (at + size) s columns k) number (state_of s columns) k
           (λ s' k'. read_from s' (suc number) k' (lines (drop (at + size + 1) t))))
       unfolding read_from
       on = v.rest ∙ rw split
@@ -230,15 +217,20 @@ module _ {t columns : List ℕ} {first room : ℕ} {x₀ x : Index} {at number k
       unfolding starts_from
       on_starts = v.left ∙ rw (split, line_long)
 
-      module _ {columns' : List ℕ} {y : Index} {slot : ℕ} {r : Result Taken Fault} (took : TookLine t columns columns' x y at (at + size) slot k s (step_at t at (at + size) s columns k) r) where
-        pub read_bad : {f : Fault} → r ≡ Err f → {z : Refusal} → z ≡ on_line number f → IndexIs t first room y (Err z)
-        read_bad {f} e g =
+      module _ {columns' : List ℕ} {x y : Row} {r : Result Taken Fault} (took : TookLine t columns columns' x y at (at + size) k s (step_at t at (at + size) s columns k) r) where
+        pub read_bad : {rows' : List Row} {f : Fault} → r ≡ Err f → {z : Refusal} → z ≡ on_line number f → IndexIs t first room rows' (Err z)
+        read_bad {rows'} {f} e g =
             let b : step_at t at (at + size) s columns k ≡ bad f.kind f.place = rw e at took.case in
-            record { case = rw g (read_short t v.short ∙ (on ∙ rw b (prefix_refused v.rows _))) }
+            record { case = rw g (read_short t v.short ∙ (on ∙ rw b (prefix_refused v.observations _))) }
 
-        module _ (wide : length columns' ≡ length columns) (ls : length y.sets ≡ length x.sets)
-            (lt : length y.starts ≡ length x.starts) (ll : length y.lengths ≡ length x.lengths) where
-          pub read_next : {s' : CodeState} → {a : Taken} → r ≡ Ok a → a ≡ Taken.Next s' → Reading t columns' first room x₀ y (at + size + 1) (number + 1) k s'
+        module _ (wide : length columns' ≡ length columns) {slot : ℕ} (slot_is : slot ≡ slot_of first room k) (slot_in : slot ≤ room) (lent : x ≡ row_at rows slot) where
+          inside' : slot < length rows
+          inside' = omega (arith, v.room_is)
+
+          room_is' : room < length (set rows slot y)
+          room_is' = simp length-set v.room_is
+
+          pub read_next : {s' : CodeState} → {a : Taken} → r ≡ Ok a → a ≡ Taken.Next s' → Reading t columns' first room (set rows slot y) (at + size + 1) (number + 1) k s'
           read_next {s'} o e =
               let z : r ≡ Ok (Taken.Next s') = o ∙ ap Ok e in
               let n : NextIs columns' x y (step_at t at (at + size) s columns k) s' = rw z at took.case in
@@ -249,22 +241,19 @@ module _ {t columns : List ℕ} {first room : ℕ} {x₀ x : Index} {at number k
                 rows_few = v.rows_few;
                 wide = wide ∙ v.wide;
                 known = n.known;
-                room_is = rw n.same v.room_is;
-                sets_long = ls ∙ v.sets_long;
-                starts_long = lt ∙ v.starts_long;
-                lengths_long = ll ∙ v.lengths_long;
-                rows = v.rows;
+                room_is = room_is';
+                observations = v.observations;
                 count = v.count;
                 spots = v.spots;
                 spots_count = v.spots_count;
-                noted = λ i a b. rw n.same (v.noted i a b);
+                noted = λ i a b. rw (row_same rows slot i inside' (n.same ∙ lent)) (v.noted i a b);
                 rest = on ∙ rw (n.is, add-one number);
                 left = on_starts ∙ rw n.is;
               }
 
-          noted_row : slot ≡ slot_of first room k → (radar : Bool) → RowTaken t columns columns' x y at (at + size) slot k s (step_at t at (at + size) s columns k) radar
-              → Reading t columns' first room x₀ y (at + size + 1) (number + 1) (k + 1) (record { need = Need.Nothing; columns = s.columns; radar = radar })
-          noted_row slot_is radar n =
+          noted_row : (radar : Bool) → RowTaken t columns columns' y at (at + size) k s (step_at t at (at + size) s columns k) radar
+              → Reading t columns' first room (set rows slot y) (at + size + 1) (number + 1) (k + 1) (record { need = Need.Nothing; columns = s.columns; radar = radar })
+          noted_row radar n =
               let spot = starts_of (take s.columns columns) (fields (between t at (at + size))) at in
               record {
                 at_most = omega (arith, inside);
@@ -273,37 +262,30 @@ module _ {t columns : List ℕ} {first room : ℕ} {x₀ x : Index} {at number k
                 rows_few = omega (arith, n.few);
                 wide = wide ∙ v.wide;
                 known = record { few = v.known.few; known = rw n.same v.known.known };
-                room_is = record {
-                  sets_room = omega (arith, ls, v.room_is.sets_room);
-                  starts_room = omega (arith, lt, v.room_is.starts_room);
-                  lengths_room = omega (arith, ll, v.room_is.lengths_room);
-                };
-                sets_long = ls ∙ v.sets_long;
-                starts_long = lt ∙ v.starts_long;
-                lengths_long = ll ∙ v.lengths_long;
-                rows = v.rows ++ (n.got ∷ []);
-                count = length-append v.rows (n.got ∷ []) ∙ ap (λ (z : ℕ). z + 1) v.count;
+                room_is = room_is';
+                observations = v.observations ++ (n.got ∷ []);
+                count = length-append v.observations (n.got ∷ []) ∙ ap (λ (z : ℕ). z + 1) v.count;
                 spots = v.spots ++ (spot ∷ []);
                 spots_count = length-append v.spots (spot ∷ []) ∙ ap (λ (z : ℕ). z + 1) v.spots_count;
                 noted = λ i a b.
                     bools (eqb (first + i) k)
                     (λ g.
                     let p : first + i ≡ k = eqb-true (first + i) k g in
-                    let w : slot ≡ i = slot_is ∙ slot_own first room k i a p in
-                    rw (p, get_d_last v.rows n.got [] k v.count, get_d_last v.spots spot [] k v.spots_count, ← w) n.noted)
+                    let w : i ≡ slot = sym (slot_is ∙ slot_own first room k i a p) in
+                    rw (w, row_own rows slot y inside', ← w, p, get_d_last v.observations n.got [] k v.count, get_d_last v.spots spot [] k v.spots_count) n.notes)
                     (λ g.
                     let m : first + i < k = omega (arith, eqb-false (first + i) k g) in
-                    let mr : first + i < length v.rows = omega (arith, v.count) in
+                    let mr : first + i < length v.observations = omega (arith, v.count) in
                     let ms : first + i < length v.spots = omega (arith, v.spots_count) in
                     let w : i ≡ slot → ⊥ = λ z. slot_other first room k i a m (sym slot_is ∙ sym z) in
-                    rw (get_or-append v.rows (n.got ∷ []) [] (first + i) mr, get_or-append v.spots (spot ∷ []) [] (first + i) ms)
-                    (noted_kept n.kept i w (v.noted i a m)));
-                rest = on ∙ (rw (n.is, n.kind_is, add-one number, add-one k, n.same) (prefix_snoc v.rows n.got _));
+                    rw (get_or-append v.observations (n.got ∷ []) [] (first + i) mr, get_or-append v.spots (spot ∷ []) [] (first + i) ms, row_other rows slot i y w)
+                    (v.noted i a m));
+                rest = on ∙ (rw (n.is, n.kind_is, add-one number, add-one k, n.same) (prefix_snoc v.observations n.got _));
                 left = on_starts ∙ rw (n.is, n.kind_is, add-one k, n.same, append_assoc);
               }
 
-          pub read_row : slot ≡ slot_of first room k → {radar : Bool} {a : Taken} → r ≡ Ok a → a ≡ Taken.Noted radar
-              → Reading t columns' first room x₀ y (at + size + 1) (number + 1) (k + 1) (record { need = Need.Nothing; columns = s.columns; radar = radar })
-          read_row slot_is {radar} o e =
+          pub read_row : {radar : Bool} {a : Taken} → r ≡ Ok a → a ≡ Taken.Noted radar
+              → Reading t columns' first room (set rows slot y) (at + size + 1) (number + 1) (k + 1) (record { need = Need.Nothing; columns = s.columns; radar = radar })
+          read_row {radar} o e =
               let z : r ≡ Ok (Taken.Noted radar) = o ∙ ap Ok e in
-              noted_row slot_is radar (rw z at took.case)
+              noted_row radar (rw z at took.case)

@@ -1,4 +1,4 @@
--- Laws of a data line: its marks, its entries in the index, and one law for each end and for the turn of the loop over its fields.
+-- Laws of a data line: its marks, its entries in a row of the index, and one law for each end and for the turn of the loop over its fields.
 use Prim.Native.Nat.{ℕ, zero, suc, ◌≤◌, ◌<◌, ◌+◌, ◌-◌, ◌*◌, ◌^◌, ◌%◌}
 use mathlib.Core.Path.{◌≡◌, refl, ap, sym, ◌∙◌}
 use mathlib.Core.List.{List, [], ◌∷◌}
@@ -27,8 +27,9 @@ use Rattle.element.specs.Observation.{Observation, is_present, set_of, is_wgs84,
 use Rattle.element.proofs.Sets.{set_mark, set_fault_lem, set_radar}
 use Rattle.report.specs.Report.{Step, row, bad, field_fault, fill, row_of, data_line, row_limit}
 use Rattle.report.specs.Starts.{fill_starts, starts_of}
-use Rattle.report.specs.Index.{Index, lent, Shows}
-use Rattle.report.specs.Inner.{between, marks_of, mark_on, after_rows, kind_by, held_by, Kept, FieldsAsk, FieldsGood, FieldsAre, RowAsks, RowCase, RowIs}
+use Rattle.report.specs.Index.{Shows}
+use Rattle.report.specs.declared.index.Row.{Row}
+use Rattle.report.specs.Inner.{between, marks_of, mark_on, after_rows, kind_by, held_by, noted_in, FieldsAsk, FieldsGood, FieldsAre, RowAsks, RowCase, RowIs}
 use Rattle.report.specs.declared.row.Marks.{Marks}
 use Rattle.report.proofs.FieldLaws.{Left, Split, split}
 
@@ -70,30 +71,25 @@ mark_on_lem o m c v h e =
     (λ p. rw (e, p, set_mark o c v h p, same_put o c 8 v (bytes "WGS84") h, same_put o c 9 v (bytes "399") h))
     (λ p. rw (e, p))
 
--- ---- entries of the index
-
-kept_set : (xs ys : List ℕ) (base c v : ℕ) → c < elements → Kept xs ys base → Kept xs (set ys (base + c) v) base
-kept_set xs ys base c v h k =
-    ((λ j b. get_or-set_other ys (base + c) j v 0 (λ q. omega arith) ∙ k.0 j b), (λ j b. get_or-set_other ys (base + c) j v 0 (λ q. omega arith) ∙ k.1 j b))
+-- ---- entries of a row
 
 -- A value that is noted is shown, and the others stay.
-shows_set : (t st ln : List ℕ) (base c p : ℕ) (o : Observation) (at : List ℕ) (v : List ℕ) → c < elements → length o ≡ elements → length at ≡ elements
-    → base + elements ≤ length st → base + elements ≤ length ln → p + length v ≤ length t → take (length v) (drop p t) ≡ v
-    → Shows t st ln base o at → Shows t (set st (base + c) p) (set ln (base + c) (length v)) base (set o c v) (set at c p)
-shows_set t st ln base c p o at v h wide wide' hs hl i e s x hx g =
+shows_set : (t st ln : List ℕ) (c p : ℕ) (o : Observation) (at : List ℕ) (v : List ℕ) → c < elements → length o ≡ elements → length at ≡ elements
+    → length st ≡ elements → length ln ≡ elements → p + length v ≤ length t → take (length v) (drop p t) ≡ v
+    → Shows t st ln o at → Shows t (set st c p) (set ln c (length v)) (set o c v) (set at c p)
+shows_set t st ln c p o at v h wide wide' hs hl i e s x hx g =
     bools (eqb c x)
     (λ q.
     let z : c ≡ x = eqb-true c x q in
-    let ps : get_or (set st (base + c) p) (base + x) 0 ≡ p = rw (← z) (get_or-set_same st (base + c) p 0 (omega arith)) in
-    let pl : get_or (set ln (base + c) (length v)) (base + x) 0 ≡ length v = rw (← z) (get_or-set_same ln (base + c) (length v) 0 (omega arith)) in
+    let ps : get_or (set st c p) x 0 ≡ p = rw (← z) (get_or-set_same st c p 0 (omega arith)) in
+    let pl : get_or (set ln c (length v)) x 0 ≡ length v = rw (← z) (get_or-set_same ln c (length v) 0 (omega arith)) in
     let pa : get_or (set at c p) x 0 ≡ p = rw (← z) (get_or-set_same at c p 0 (omega arith)) in
     let po : get_or (set o c v) x [] ≡ v = rw (← z) (get_or-set_same o c v [] (omega arith)) in
     rw (po, pa) (record { start_is = ps; length_is = pl; inside = i; holds = e }))
     (λ q.
     let z : x ≡ c → ⊥ = λ y. eqb-false c x q (sym y) in
-    let d : base + x ≡ base + c → ⊥ = λ y. z (omega arith) in
-    let ps : get_or (set st (base + c) p) (base + x) 0 ≡ get_or st (base + x) 0 = get_or-set_other st (base + c) (base + x) p 0 d in
-    let pl : get_or (set ln (base + c) (length v)) (base + x) 0 ≡ get_or ln (base + x) 0 = get_or-set_other ln (base + c) (base + x) (length v) 0 d in
+    let ps : get_or (set st c p) x 0 ≡ get_or st x 0 = get_or-set_other st c x p 0 z in
+    let pl : get_or (set ln c (length v)) x 0 ≡ get_or ln x 0 = get_or-set_other ln c x (length v) 0 z in
     let pa : get_or (set at c p) x 0 ≡ get_or at x 0 = get_or-set_other at c x p 0 z in
     let po : get_or (set o c v) x [] ≡ get_or o x [] = get_or-set_other o c x v [] z in
     let y = s x hx (rw po at g) in
@@ -104,48 +100,45 @@ length_zero [] = refl
 length_zero (b ∷ v) = ne_eqb (suc (length v)) 0 (λ z. omega arith)
 
 -- The same for any value: an absent one changes nothing.
-noted_on : (t st ln : List ℕ) (base c p n : ℕ) (o : Observation) (at : List ℕ) (v : List ℕ) (st' ln' : List ℕ) → c < elements → length o ≡ elements → length at ≡ elements
-    → base + elements ≤ length st → base + elements ≤ length ln → p + length v ≤ length t → take (length v) (drop p t) ≡ v → n ≡ length v
-    → st' ≡ cond (eqb n 0) st (set st (base + c) p) → ln' ≡ cond (eqb n 0) ln (set ln (base + c) n)
-    → Shows t st ln base o at → Shows t st' ln' base (put o c v) (cond (is_present v) (set at c p) at)
-noted_on t st ln base c p n o at v st' ln' h wide wide' hs hl i e len es el s =
+noted_on : (t : List ℕ) (x y : Row) (c p n : ℕ) (o : Observation) (at : List ℕ) (v : List ℕ) → c < elements → length o ≡ elements → length at ≡ elements
+    → length x.starts ≡ elements → length x.lengths ≡ elements → p + length v ≤ length t → take (length v) (drop p t) ≡ v → n ≡ length v
+    → y ≡ noted_in x c p n → Shows t x.starts x.lengths o at
+    → Shows t y.starts y.lengths (put o c v) (cond (is_present v) (set at c p) at)
+noted_on t x y c p n o at v h wide wide' hs hl i e len noted s =
     bools (is_present v)
     (λ q.
     let z : eqb n 0 ≡ false = rw len (length_zero v ∙ rw q) in
-    let es' : st' ≡ set st (base + c) p = es ∙ rw z in
-    let el' : ln' ≡ set ln (base + c) (length v) = el ∙ rw (z, len) in
-    rw (q, es', el') (shows_set t st ln base c p o at v h wide wide' hs hl i e s))
+    let w : y ≡ record { present = x.present; starts = set x.starts c p; lengths = set x.lengths c (length v) } = noted ∙ rw (z, len) in
+    rw (q, w) (shows_set t x.starts x.lengths c p o at v h wide wide' hs hl i e s))
     (λ q.
     let z : eqb n 0 ≡ true = rw len (length_zero v ∙ rw q) in
-    let es' : st' ≡ st = es ∙ rw z in
-    let el' : ln' ≡ ln = el ∙ rw z in
-    rw (q, es', el') s)
+    let w : y ≡ x = noted ∙ rw z in
+    rw (q, w) s)
 
-kept_on : (xs ys ys' : List ℕ) (base c n v : ℕ) → c < elements → ys' ≡ cond (eqb n 0) ys (set ys (base + c) v) → Kept xs ys base → Kept xs ys' base
-kept_on xs ys ys' base c n v h e k =
-    bools (eqb n 0) (λ q. let z : ys' ≡ ys = e ∙ rw q in rw z k) (λ q. let z : ys' ≡ set ys (base + c) v = e ∙ rw q in rw z (kept_set xs ys base c v h k))
-
-long_on : (ys ys' : List ℕ) (j n v : ℕ) → ys' ≡ cond (eqb n 0) ys (set ys j v) → length ys' ≡ length ys
-long_on ys ys' j n v e =
-    bools (eqb n 0) (λ q. let z : ys' ≡ ys = e ∙ rw q in ap length z) (λ q. let z : ys' ≡ set ys j v = e ∙ rw q in ap length z ∙ length-set ys j v)
+-- A row's lists keep their lengths.
+long_on : (x y : Row) (c p n : ℕ) → y ≡ noted_in x c p n → (length y.starts ≡ length x.starts) × (length y.lengths ≡ length x.lengths)
+long_on x y c p n e =
+    bools (eqb n 0)
+    (λ q. let z : y ≡ x = e ∙ rw q in (ap (λ (r : Row). length r.starts) z, ap (λ (r : Row). length r.lengths) z))
+    (λ q.
+    let z : y ≡ record { present = x.present; starts = set x.starts c p; lengths = set x.lengths c n } = e ∙ rw q in
+    (ap (λ (r : Row). length r.starts) z ∙ length-set x.starts c p, ap (λ (r : Row). length r.lengths) z ∙ length-set x.lengths c n))
 
 -- ---- the loop over the fields
 
 -- The observation so far and where its values start; what is left of the fields comes to the same.
-pub record Filling (t columns st₀ ln₀ st ln : List ℕ) (from till base a k : ℕ) (m : Marks) : Type 0 where
+pub record Filling (t columns : List ℕ) (noted : Row) (from till a k : ℕ) (m : Marks) : Type 0 where
   pub left : List (List ℕ)
   pub count : k + length left ≡ length columns
   pub lies : Left (between t from till) a left
-  pub starts_long : length st ≡ length st₀
-  pub lengths_long : length ln ≡ length ln₀
+  pub starts_long : length noted.starts ≡ elements
+  pub lengths_long : length noted.lengths ≡ elements
   pub sofar : Observation
   pub wide : length sofar ≡ elements
   pub at : List ℕ
   pub at_wide : length at ≡ elements
   pub marks : m ≡ marks_of sofar
-  pub shows : Shows t st ln base sofar at
-  pub starts_kept : Kept st₀ st base
-  pub lengths_kept : Kept ln₀ ln base
+  pub shows : Shows t noted.starts noted.lengths sofar at
   pub faults : field_fault 1 columns (fields (between t from till)) ≡ field_fault (suc k) (drop k columns) left
   pub rest : row_of columns (fields (between t from till)) ≡ fill (drop k columns) left sofar
   pub places : starts_of columns (fields (between t from till)) from ≡ fill_starts (drop k columns) left (from + a) at
@@ -159,22 +152,21 @@ blank_marks : (m : Marks) → m ≡ record { present = 0; wgs84 = false; earth =
 unfolding is_wgs84 is_earth same set_of
 blank_marks m e = e
 
-pub fill_start : (t columns st ln : List ℕ) (from till base : ℕ) (m : Marks) → length (fields (between t from till)) ≡ length columns
-    → m ≡ record { present = 0; wgs84 = false; earth = false } → Filling t columns st ln st ln from till base 0 0 m
-fill_start t columns st ln from till base m c e = record {
+pub fill_start : (t columns : List ℕ) (noted : Row) (from till : ℕ) (m : Marks) → length (fields (between t from till)) ≡ length columns
+    → length noted.starts ≡ elements → length noted.lengths ≡ elements
+    → m ≡ record { present = 0; wgs84 = false; earth = false } → Filling t columns noted from till 0 0 m
+fill_start t columns noted from till m c hs hl e = record {
   left = fields (between t from till);
   count = omega (arith, c);
   lies = λ h. (omega arith, refl);
-  starts_long = refl;
-  lengths_long = refl;
+  starts_long = hs;
+  lengths_long = hl;
   sofar = replicate elements [];
   wide = refl;
   at = replicate elements 0;
   at_wide = refl;
   marks = blank_marks m e;
   shows = λ x h g. absurd (true≢false (sym (rw (blank_at elements x) at g)));
-  starts_kept = ((λ j b. refl), (λ j b. refl));
-  lengths_kept = ((λ j b. refl), (λ j b. refl));
   faults = refl;
   rest = refl;
   places = ap (λ (x : ℕ). fill_starts columns (fields (between t from till)) x (replicate elements 0)) (add_none from);
@@ -183,8 +175,8 @@ fill_start t columns st ln from till base m c e = record {
     add_none : (n : ℕ) → n ≡ n + 0
     add_none n = omega arith
 
-module _ {t columns st₀ ln₀ st ln : List ℕ} {from till base a k : ℕ} {m : Marks} (asks : FieldsAsk t columns st₀ ln₀ from till base)
-    (s : Filling t columns st₀ ln₀ st ln from till base a k m) where
+module _ {t columns : List ℕ} {noted : Row} {from till a k : ℕ} {m : Marks} (asks : FieldsAsk t columns from till)
+    (s : Filling t columns noted from till a k m) where
   module _ {start size end : ℕ} (f : FieldAt (between t from till) a start size end) (h : k < length columns) where
     lies : (a ≤ length (between t from till)) × (s.left ≡ fields (drop a (between t from till)))
     lies = s.lies (omega (arith, s.count))
@@ -215,10 +207,9 @@ module _ {t columns st₀ ln₀ st ln : List ℕ} {from till base a k : ℕ} {m 
     pub fields_fit : end ≤ till
     fields_fit = omega (arith, f.fits lies.0, length-take (till - from) (drop from t))
 
-    pub entry_inside : (base + get_or columns k 0 < length st) × (base + get_or columns k 0 < length ln) × (from + start < 65536) × (size < 65536)
+    pub entry_inside : (get_or columns k 0 < elements) × (from + start < 65536) × (size < 65536)
     entry_inside = (
-      omega (arith, asks.known k h, asks.starts_room, s.starts_long),
-      omega (arith, asks.known k h, asks.lengths_room, s.lengths_long),
+      asks.known k h,
       omega (arith, fields_inside, asks.order, asks.short),
       omega (arith, fields_inside, asks.order, asks.short),
     )
@@ -226,8 +217,7 @@ module _ {t columns st₀ ln₀ st ln : List ℕ} {from till base a k : ℕ} {m 
     -- The value is right, its marks are put on and it is noted.
     module _ (fine : Ok tt ≡ fault_of (get_or columns k 0) (take (start + size - start) (drop start (between t from till))))
         {m' : Marks} (marked : m' ≡ mark_on m (get_or columns k 0) (take (start + size - start) (drop start (between t from till))))
-        {st' ln' : List ℕ} (es : st' ≡ cond (eqb size 0) st (set st (base + get_or columns k 0) (from + start)))
-        (el : ln' ≡ cond (eqb size 0) ln (set ln (base + get_or columns k 0) size)) where
+        {noted' : Row} (with_value : noted' ≡ noted_in noted (get_or columns k 0) (from + start) size) where
       fine_is : fault_of (get_or columns k 0) value ≡ Ok tt
       fine_is = sym (rw value_is at fine)
 
@@ -261,20 +251,16 @@ module _ {t columns st₀ ln₀ st ln : List ℕ} {from till base a k : ℕ} {m 
       marks' = marked ∙ (ap (λ (v : List ℕ). mark_on m (get_or columns k 0) v) value_is
           ∙ mark_on_lem s.sofar m (get_or columns k 0) value (omega (arith, asks.known k h, s.wide)) s.marks)
 
-      shows' : Shows t st' ln' base sofar' at'
+      shows' : Shows t noted'.starts noted'.lengths sofar' at'
       unfolding sofar' at'
       shows' =
-          noted_on t st ln base (get_or columns k 0) (from + start) size s.sofar s.at value st' ln' (asks.known k h) s.wide s.at_wide
-          (omega (arith, asks.starts_room, s.starts_long)) (omega (arith, asks.lengths_room, s.lengths_long))
-          (omega (arith, fields_inside, asks.order, asks.in_text, size_is)) holds size_is es el s.shows
+          noted_on t noted noted' (get_or columns k 0) (from + start) size s.sofar s.at value (asks.known k h) s.wide s.at_wide s.starts_long s.lengths_long
+          (omega (arith, fields_inside, asks.order, asks.in_text, size_is)) holds size_is with_value s.shows
 
-      starts_kept' : Kept st₀ st' base
-      starts_kept' = kept_on st₀ st st' base (get_or columns k 0) size (from + start) (asks.known k h) es s.starts_kept
+      long' : (length noted'.starts ≡ length noted.starts) × (length noted'.lengths ≡ length noted.lengths)
+      long' = long_on noted noted' (get_or columns k 0) (from + start) size with_value
 
-      lengths_kept' : Kept ln₀ ln' base
-      lengths_kept' = kept_on ln₀ ln ln' base (get_or columns k 0) size size (asks.known k h) el s.lengths_kept
-
-      pub fields_on : Filling t columns st₀ ln₀ st' ln' from till base (end + 1) (k + 1) m'
+      pub fields_on : Filling t columns noted' from till (end + 1) (k + 1) m'
       unfolding field_fault fill fill_starts value sofar' at'
       fields_on =
           let x : from + a + suc (length (field_from (between t from till) a)) ≡ from + (end + 1) = omega (arith, parted.wide) in
@@ -282,23 +268,21 @@ module _ {t columns st₀ ln₀ st ln : List ℕ} {from till base a k : ℕ} {m 
             left = parted.others;
             count = omega (arith, s.count, ap length left_is);
             lies = parted.after;
-            starts_long = long_on st st' (base + get_or columns k 0) size (from + start) es ∙ s.starts_long;
-            lengths_long = long_on ln ln' (base + get_or columns k 0) size size el ∙ s.lengths_long;
+            starts_long = long'.0 ∙ s.starts_long;
+            lengths_long = long'.1 ∙ s.lengths_long;
             sofar = sofar';
             wide = wide';
             at = at';
             at_wide = at_wide';
             marks = marks';
             shows = shows';
-            starts_kept = starts_kept';
-            lengths_kept = lengths_kept';
             faults = s.faults ∙ (ap (λ (fs : List (List ℕ)). field_fault (suc k) (drop k columns) fs) left_is ∙ rw (drop-cons columns k 0 h, fine_is, add-one k));
             rest = s.rest ∙ (ap (λ (fs : List (List ℕ)). fill (drop k columns) fs s.sofar) left_is ∙ rw (drop-cons columns k 0 h, add-one k));
             places = s.places
                 ∙ (ap (λ (fs : List (List ℕ)). fill_starts (drop k columns) fs (from + a) s.at) left_is ∙ rw (drop-cons columns k 0 h, add-one k, start_is, ← x));
           }
 
-  pub fields_end : length columns ≤ k → FieldsGood t columns st₀ ln₀ st ln from till base m
+  pub fields_end : length columns ≤ k → FieldsGood t columns noted from till m
   unfolding field_fault fill fill_starts
   fields_end h =
       let d : drop k columns ≡ [] = drop_of_length-le columns h in
@@ -308,15 +292,13 @@ module _ {t columns st₀ ln₀ st ln : List ℕ} {from till base a k : ℕ} {m 
         sound = s.faults ∙ rw d;
         marks = s.marks ∙ ap (λ (o : Observation). marks_of o) (sym r);
         shows = rw (r, p) s.shows;
-        starts_kept = s.starts_kept;
-        lengths_kept = s.lengths_kept;
       }
 
 -- ---- the data line
 
 -- What the loop over the fields ensures, once its answer is known.
-module _ {t columns st ln st' ln' : List ℕ} {from till base : ℕ} {r : Result Marks Fault} (f : FieldsAre t columns st ln st' ln' from till base r) where
-  pub good_of : {m : Marks} → r ≡ Ok m → FieldsGood t columns st ln st' ln' from till base m
+module _ {t columns : List ℕ} {noted : Row} {from till : ℕ} {r : Result Marks Fault} (f : FieldsAre t columns noted from till r) where
+  pub good_of : {m : Marks} → r ≡ Ok m → FieldsGood t columns noted from till m
   good_of e = rw e at f.case
 
   pub wrong_of : {fault : Fault} → r ≡ Err fault → field_fault 1 columns (fields (between t from till)) ≡ Err fault
@@ -341,27 +323,25 @@ rows_mixed None {o = o} e s = absurd (alike (is_radar o) s)
     alike false s = true≢false s
 rows_mixed (Some radar) e s = rw (e, s)
 
-pub row_refused : {t columns : List ℕ} {x y : Index} {from till slot k : ℕ} {before : Option Bool} {fault : Fault}
-    → data_line columns k (between t from till) ≡ bad fault.kind fault.place → RowIs t columns x y from till slot k before (Err fault)
+pub row_refused : {t columns : List ℕ} {noted : Row} {from till k : ℕ} {before : Option Bool} {fault : Fault}
+    → data_line columns k (between t from till) ≡ bad fault.kind fault.place → RowIs t columns noted from till k before (Err fault)
 row_refused {before = before} {fault = fault} e = record { case = rows_bad before {fault = fault} e }
 
 pub row_many : (columns : List ℕ) (k : ℕ) (l : List ℕ) → row_limit ≤ k → data_line columns k l ≡ bad TooManyRows 0
 unfolding data_line
 row_many columns k l h = rw (le-ltb k row_limit h)
 
-module _ {t columns : List ℕ} {x : Index} {from till parts slot k : ℕ} (asks : RowAsks t columns x from till parts slot) (h : k < row_limit) where
+module _ {t columns : List ℕ} {from till parts k : ℕ} (asks : RowAsks t columns from till parts) (h : k < row_limit) where
   pub row_count : (parts ≡ length columns → ⊥) → data_line columns k (between t from till) ≡ bad FieldCountDiffers 0
   unfolding data_line
   row_count n = rw (lt-ltb k row_limit h, ne_eqb (length (fields (between t from till))) (length columns) (λ e. n (asks.parts_are ∙ e)))
 
-  pub fields_ask : parts ≡ length columns → FieldsAsk t columns x.starts x.lengths from till (slot * elements)
+  pub fields_ask : parts ≡ length columns → FieldsAsk t columns from till
   fields_ask c = record {
     parts = sym asks.parts_are ∙ c;
     order = asks.order;
     in_text = asks.in_text;
     short = asks.short;
-    starts_room = asks.room.starts_room;
-    lengths_room = asks.room.lengths_room;
     few = asks.few;
     known = asks.known;
   }
@@ -375,12 +355,12 @@ module _ {t columns : List ℕ} {x : Index} {from till parts slot k : ℕ} (asks
     unfolding data_line
     row_fields e = rw (lt-ltb k row_limit h, eq-eqb _ _ count_is, e)
 
-    module _ {st' ln' : List ℕ} {m : Marks} (g : FieldsGood t columns x.starts x.lengths st' ln' from till (slot * elements) m) where
+    module _ {noted : Row} {m : Marks} (g : FieldsGood t columns noted from till m) where
       fault_is : set_fault m.present m.wgs84 m.earth ≡ observation_fault (row_of columns (fields (between t from till)))
       fault_is = rw g.marks (set_fault_lem (row_of columns (fields (between t from till))))
 
       pub row_held : (before : Option Bool) {r : Result Bool Fault} → r ≡ held_by m before
-          → RowIs t columns x (lent (set x.sets slot m.present) st' ln') from till slot k before r
+          → RowIs t columns (record { present = m.present; starts = noted.starts; lengths = noted.lengths }) from till k before r
       unfolding data_line held_by
       row_held before {r} e = record { case = go (observation_fault (row_of columns (fields (between t from till)))) refl }
         where
@@ -391,7 +371,7 @@ module _ {t columns : List ℕ} {x : Index} {from till parts slot k : ℕ} (asks
           by f q = e ∙ ap (λ (x : Result Unit Fault). kind_by x before (is_radar_set m.present)) (fault_is ∙ q)
 
           go : (f : Result Unit Fault) → observation_fault (row_of columns (fields (between t from till))) ≡ f
-              → RowCase t columns x (lent (set x.sets slot m.present) st' ln') from till slot k before r
+              → RowCase t columns (record { present = m.present; starts = noted.starts; lengths = noted.lengths }) from till k before r
           go (Ok u) q =
               let taken : data_line columns k (between t from till) ≡ row (row_of columns (fields (between t from till))) =
               rw (lt-ltb k row_limit h, eq-eqb _ _ count_is, g.sound, q) in
@@ -403,15 +383,7 @@ module _ {t columns : List ℕ} {x : Index} {from till parts slot k : ℕ} (asks
                 is = rows_row before taken (rw kind_of_lem at s);
                 kind_is = kind_of_lem;
                 few = h;
-                noted = record {
-                  set_is = get_or-set_same x.sets slot m.present 0 asks.room.sets_room ∙ ap (λ (y : Marks). y.present) g.marks;
-                  shows = g.shows;
-                };
-                kept = record {
-                  sets_kept = λ i n. get_or-set_other x.sets slot i m.present 0 n;
-                  starts_kept = g.starts_kept;
-                  lengths_kept = g.lengths_kept;
-                };
+                notes = record { set_is = ap (λ (y : Marks). y.present) g.marks; shows = g.shows };
               }))
               (λ s. let r-is : r ≡ Err (at KindsMixed 0) = rw s at (by (Ok u) q) in rw r-is (rows_mixed before taken (rw kind_of_lem at s)))
           go (Err fault) q =

@@ -1,5 +1,5 @@
 -- What the reader's private functions promise each other. A reviewer of the report's rules can skip this file.
-use Rattle.std.specs.Prelude.{ℕ, ◌+◌, ◌-◌, ◌*◌, ◌^◌, ◌≤◌, ◌<◌, ◌≡◌, List, [], Bool, false, cond, ◌&&◌, eqb, leb, ltb, length, take, drop, get_or, Option, unwrap_or, Some, None, Result, Ok, Err}
+use Rattle.std.specs.Prelude.{ℕ, ◌+◌, ◌-◌, ◌*◌, ◌^◌, ◌≤◌, ◌<◌, ◌≡◌, List, [], Bool, false, cond, ◌&&◌, eqb, leb, ltb, length, take, drop, get_or, set, Option, unwrap_or, Some, None, Result, Ok, Err}
 use Rattle.std.specs.Bool.{beq}
 use Rattle.std.specs.Int.Bits.{bit_or}
 use Rattle.text.specs.Bytes.{bytes}
@@ -16,7 +16,8 @@ use Rattle.element.specs.Observation.{Observation, is_present, is_radar, set_of,
 use Rattle.report.specs.Report.{State, Step, next, row, bad, columns_from, field_fault, row_of, data_line, of_kind, other, step, read, row_limit}
 use Rattle.report.specs.Starts.{starts_of, starts_in}
 use Rattle.report.specs.Answers.{shown_of, showing_paper, showing_answer}
-use Rattle.report.specs.Index.{Index, Shows, Noted}
+use Rattle.report.specs.Index.{Shows, Noted}
+use Rattle.report.specs.declared.index.Row.{Row}
 use Rattle.report.specs.declared.row.Marks.{Marks}
 use Rattle.report.specs.declared.state.Need.{Need}
 use Rattle.report.specs.declared.state.State.{State as CodeState}
@@ -87,76 +88,56 @@ kind_by (Err f) before radar = Err f
 unfoldable pub held_by : Marks → Option Bool → Result Bool Fault
 held_by m before = kind_by (set_fault m.present m.wgs84 m.earth) before (is_radar_set m.present)
 
--- Outside a row's entries from base on nothing changed.
-abbrev pub Kept : List ℕ → List ℕ → ℕ → Type 0
-Kept old now base =
-    ((j : ℕ) → j < base → get_or now j 0 ≡ get_or old j 0) × ((j : ℕ) → base + elements ≤ j → get_or now j 0 ≡ get_or old j 0)
-
-pub record FieldsAsk (t columns starts lengths : List ℕ) (from till base : ℕ) : Type 0 where
+pub record FieldsAsk (t columns : List ℕ) (from till : ℕ) : Type 0 where
   pub parts : length (fields (between t from till)) ≡ length columns
   pub order : from ≤ till
   pub in_text : till < length t
   pub short : till < 65536
-  pub starts_room : base + elements ≤ length starts
-  pub lengths_room : base + elements ≤ length lengths
   pub few : length columns ≤ elements
   pub known : (k : ℕ) → k < length columns → get_or columns k 0 < elements
 
-pub record FieldsGood (t columns starts lengths starts' lengths' : List ℕ) (from till base : ℕ) (m : Marks) : Type 0 where
+pub record FieldsGood (t columns : List ℕ) (noted : Row) (from till : ℕ) (m : Marks) : Type 0 where
   pub sound : field_fault 1 columns (fields (between t from till)) ≡ Ok tt
   pub marks : m ≡ marks_of (row_of columns (fields (between t from till)))
-  pub shows : Shows t starts' lengths' base (row_of columns (fields (between t from till))) (starts_of columns (fields (between t from till)) from)
-  pub starts_kept : Kept starts starts' base
-  pub lengths_kept : Kept lengths lengths' base
+  pub shows : Shows t noted.starts noted.lengths (row_of columns (fields (between t from till))) (starts_of columns (fields (between t from till)) from)
 
-abbrev pub FieldsCase : List ℕ → List ℕ → List ℕ → List ℕ → List ℕ → List ℕ → ℕ → ℕ → ℕ → Result Marks Fault → Type 0
-FieldsCase t columns starts lengths starts' lengths' from till base (Ok m) =
-    FieldsGood t columns starts lengths starts' lengths' from till base m
-FieldsCase t columns starts lengths starts' lengths' from till base (Err f) =
-    field_fault 1 columns (fields (between t from till)) ≡ Err f
+abbrev pub FieldsCase : List ℕ → List ℕ → Row → ℕ → ℕ → Result Marks Fault → Type 0
+FieldsCase t columns noted from till (Ok m) = FieldsGood t columns noted from till m
+FieldsCase t columns noted from till (Err f) = field_fault 1 columns (fields (between t from till)) ≡ Err f
 
-pub record FieldsAre (t columns starts lengths starts' lengths' : List ℕ) (from till base : ℕ) (r : Result Marks Fault) : Type 0 where
-  pub case : FieldsCase t columns starts lengths starts' lengths' from till base r
+pub record FieldsAre (t columns : List ℕ) (noted : Row) (from till : ℕ) (r : Result Marks Fault) : Type 0 where
+  pub case : FieldsCase t columns noted from till r
+
+-- A row with one value more, which is noted where it has any byte.
+abbrev pub noted_in : Row → ℕ → ℕ → ℕ → Row
+noted_in x element start size =
+    cond (eqb size 0) x (record { present = x.present; starts = set x.starts element start; lengths = set x.lengths element size })
 
 -- ---- a data line
 
--- The index has a row at the slot.
-pub record Room (x : Index) (slot : ℕ) : Type 0 where
-  pub sets_room : slot < length x.sets
-  pub starts_room : slot * elements + elements ≤ length x.starts
-  pub lengths_room : slot * elements + elements ≤ length x.lengths
-
-pub record RowAsks (t columns : List ℕ) (x : Index) (from till parts slot : ℕ) : Type 0 where
+pub record RowAsks (t columns : List ℕ) (from till parts : ℕ) : Type 0 where
   pub order : from ≤ till
   pub in_text : till < length t
   pub short : till < 65536
   pub parts_are : parts ≡ length (fields (between t from till))
-  pub room : Room x slot
   pub few : length columns ≤ elements
   pub known : (k : ℕ) → k < length columns → get_or columns k 0 < elements
 
--- Outside row slot nothing of the index changed.
-pub record KeptBut (x y : Index) (slot : ℕ) : Type 0 where
-  pub sets_kept : (i : ℕ) → (i ≡ slot → ⊥) → get_or y.sets i 0 ≡ get_or x.sets i 0
-  pub starts_kept : Kept x.starts y.starts (slot * elements)
-  pub lengths_kept : Kept x.lengths y.lengths (slot * elements)
-
--- The data line is an observation, noted at the slot.
-pub record RowGood (t columns : List ℕ) (x y : Index) (from till slot k : ℕ) (before : Option Bool) (kind : Bool) : Type 0 where
+-- The data line is an observation, noted in the row.
+pub record RowGood (t columns : List ℕ) (noted : Row) (from till k : ℕ) (before : Option Bool) (kind : Bool) : Type 0 where
   pub got : Observation
   pub is : after_rows before (data_line columns k (between t from till)) ≡ row got
   pub kind_is : kind ≡ is_radar got
   pub few : k < row_limit
-  pub noted : Noted t y slot got (starts_of columns (fields (between t from till)) from)
-  pub kept : KeptBut x y slot
+  pub notes : Noted t noted got (starts_of columns (fields (between t from till)) from)
 
-abbrev pub RowCase : List ℕ → List ℕ → Index → Index → ℕ → ℕ → ℕ → ℕ → Option Bool → Result Bool Fault → Type 0
-RowCase t columns x y from till slot k before (Ok kind) = RowGood t columns x y from till slot k before kind
-RowCase t columns x y from till slot k before (Err f) =
+abbrev pub RowCase : List ℕ → List ℕ → Row → ℕ → ℕ → ℕ → Option Bool → Result Bool Fault → Type 0
+RowCase t columns noted from till k before (Ok kind) = RowGood t columns noted from till k before kind
+RowCase t columns noted from till k before (Err f) =
     after_rows before (data_line columns k (between t from till)) ≡ bad f.kind f.place
 
-pub record RowIs (t columns : List ℕ) (x y : Index) (from till slot k : ℕ) (before : Option Bool) (r : Result Bool Fault) : Type 0 where
-  pub case : RowCase t columns x y from till slot k before r
+pub record RowIs (t columns : List ℕ) (noted : Row) (from till k : ℕ) (before : Option Bool) (r : Result Bool Fault) : Type 0 where
+  pub case : RowCase t columns noted from till k before r
 
 -- ---- a line
 
@@ -175,36 +156,34 @@ opened_to Need.Columns = Err (at BlockUnfinished 0)
 opened_to Need.Row = Err (at BlockUnfinished 0)
 opened_to Need.Nothing = Ok (record { need = Need.Columns; columns = 0; radar = false })
 
--- The line is a version line or a column line: the state after it; the index is as it was.
-pub record NextIs (columns : List ℕ) (x y : Index) (taken : Step) (s : CodeState) : Type 0 where
+-- The line is a version line or a column line: the state after it; the row is as it was.
+pub record NextIs (columns : List ℕ) (x y : Row) (taken : Step) (s : CodeState) : Type 0 where
   pub is : taken ≡ next (state_of s columns)
   pub known : Known s columns
   pub same : y ≡ x
 
--- The line is an observation, noted at the slot; the columns are as they were.
-pub record RowTaken (t columns columns' : List ℕ) (x y : Index) (from till slot k : ℕ) (s : CodeState) (taken : Step) (radar : Bool) : Type 0 where
+-- The line is an observation, noted in the row; the columns are as they were.
+pub record RowTaken (t columns columns' : List ℕ) (noted : Row) (from till k : ℕ) (s : CodeState) (taken : Step) (radar : Bool) : Type 0 where
   pub got : Observation
   pub is : taken ≡ row got
   pub kind_is : radar ≡ is_radar got
   pub few : k < row_limit
-  pub noted : Noted t y slot got (starts_of (take s.columns columns) (fields (between t from till)) from)
-  pub kept : KeptBut x y slot
+  pub notes : Noted t noted got (starts_of (take s.columns columns) (fields (between t from till)) from)
   pub same : columns' ≡ columns
 
-abbrev pub LineCase : List ℕ → List ℕ → List ℕ → Index → Index → ℕ → ℕ → ℕ → ℕ → CodeState → Step → Result Taken Fault → Type 0
-LineCase t columns columns' x y from till slot k old taken (Ok (Taken.Next s)) = NextIs columns' x y taken s
-LineCase t columns columns' x y from till slot k old taken (Ok (Taken.Noted radar)) = RowTaken t columns columns' x y from till slot k old taken radar
-LineCase t columns columns' x y from till slot k old taken (Err f) = taken ≡ bad f.kind f.place
+abbrev pub LineCase : List ℕ → List ℕ → List ℕ → Row → Row → ℕ → ℕ → ℕ → CodeState → Step → Result Taken Fault → Type 0
+LineCase t columns columns' x y from till k old taken (Ok (Taken.Next s)) = NextIs columns' x y taken s
+LineCase t columns columns' x y from till k old taken (Ok (Taken.Noted radar)) = RowTaken t columns columns' y from till k old taken radar
+LineCase t columns columns' x y from till k old taken (Err f) = taken ≡ bad f.kind f.place
 
-pub record TookLine (t columns columns' : List ℕ) (x y : Index) (from till slot k : ℕ) (old : CodeState) (taken : Step) (r : Result Taken Fault) : Type 0 where
-  pub case : LineCase t columns columns' x y from till slot k old taken r
+pub record TookLine (t columns columns' : List ℕ) (x y : Row) (from till k : ℕ) (old : CodeState) (taken : Step) (r : Result Taken Fault) : Type 0 where
+  pub case : LineCase t columns columns' x y from till k old taken r
 
-pub record LineAsks (t columns : List ℕ) (x : Index) (from till parts slot : ℕ) (s : CodeState) : Type 0 where
+pub record LineAsks (t columns : List ℕ) (from till parts : ℕ) (s : CodeState) : Type 0 where
   pub order : from ≤ till
   pub in_text : till < length t
   pub short : till < 65536
   pub parts_are : parts ≡ length (fields (between t from till))
-  pub room : Room x slot
   pub wide : elements ≤ length columns
   pub known : Known s columns
 
@@ -223,10 +202,10 @@ checked_at Need.Nothing n k = Ok k
 
 -- ---- one value
 
--- What the first row of an index shows of an element.
-unfoldable pub slot_shown : List ℕ → List ℕ → List ℕ → ℕ → Option Span
-slot_shown sets starts lengths e =
-    cond (has (get_or sets 0 0) e) (Some (record { start = get_or starts e 0; length = get_or lengths e 0 })) None
+-- What a row shows of an element.
+unfoldable pub shown_in : Row → ℕ → Option Span
+shown_in noted e =
+    cond (has noted.present e) (Some (record { start = get_or noted.starts e 0; length = get_or noted.lengths e 0 })) None
 
 -- Where a value lies, and that it lies there.
 pub record LocatedIs (t : List ℕ) (n e : ℕ) (r : Result (Option Span) Refusal) : Type 0 where

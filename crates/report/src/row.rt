@@ -1,12 +1,12 @@
 // A data line: its fields one by one, and what its observation must hold.
-ghost use Rattle.std.specs.Prelude.{◌≡◌, cond, ◌<◌, eqb, length as length', set};
+ghost use Rattle.std.specs.Prelude.{◌≡◌, ◌<◌};
 ghost use Rattle.element.specs.Table.{elements};
-ghost use Rattle.report.specs.Index.{lent};
-ghost use Rattle.report.specs.Inner.{mark_on, held_by, FieldsAsk, FieldsAre, RowAsks, RowIs};
+ghost use Rattle.report.specs.Inner.{mark_on, held_by, noted_in, FieldsAsk, FieldsAre, RowAsks, RowIs};
 
 use crate::ROW_LIMIT;
+use crate::index::Row;
+use element::form;
 use element::observation::{is_radar, observation_fault};
-use element::{ELEMENTS, form};
 use refusal::{Fault, Kind};
 
 // What the values passed so far tell of their observation: the set of present elements, whether sys is WGS84, whether ctr is 399.
@@ -18,22 +18,19 @@ pub struct Marks {
 }
 
 // A data line with k before it in the text, which is the first of its block or stands after rows that are radar or not: 14, 18, its fields, its
-// observation, which is noted in the index at a slot, 21. It says whether its observation is radar.
+// observation, which is noted in a row of the index, 21. It says whether its observation is radar.
 pub(crate) fn data_line(
     report: &[u8],
     from: usize,
     till: usize,
     fields: usize,
     columns: &[u8],
-    sets: &mut [u64],
-    starts: &mut [u16],
-    lengths: &mut [u16],
-    slot: usize,
+    row: &mut Row,
     k: usize,
     before: Option<bool>,
 ) -> Result<bool, Fault>
-    requires { RowAsks report.now columns.now (lent sets.old starts.old lengths.old) from till fields slot }
-    ensures { RowIs report.now columns.now (lent sets.old starts.old lengths.old) (lent sets.new starts.new lengths.new) from till slot k before result }
+    requires { RowAsks report.now columns.now from till fields }
+    ensures { RowIs report.now columns.now row.new from till k before result }
 {
     if k >= ROW_LIMIT {
         return Err(Fault {
@@ -47,9 +44,8 @@ pub(crate) fn data_line(
             place: 0,
         });
     }
-    let base = slot * ELEMENTS;
-    let marks = take_fields(report, from, till, columns, starts, lengths, base)?;
-    sets[slot] = marks.present;
+    let marks = take_fields(report, from, till, columns, row)?;
+    row.present = marks.present;
     held(marks, before)
 }
 
@@ -69,18 +65,16 @@ fn held(marks: Marks, before: Option<bool>) -> Result<bool, Fault>
     })
 }
 
-// The fields of the data line from..till: the first fault, or the marks of its observation; where each value lies is noted from entry base on.
+// The fields of the data line from..till: the first fault, or the marks of its observation; where each value lies is noted in the row.
 fn take_fields(
     report: &[u8],
     from: usize,
     till: usize,
     columns: &[u8],
-    starts: &mut [u16],
-    lengths: &mut [u16],
-    base: usize,
+    row: &mut Row,
 ) -> Result<Marks, Fault>
-    requires { FieldsAsk report.now columns.now starts.old lengths.old from till base }
-    ensures { FieldsAre report.now columns.now starts.old lengths.old starts.new lengths.new from till base result }
+    requires { FieldsAsk report.now columns.now from till }
+    ensures { FieldsAre report.now columns.now row.new from till result }
 {
     let line = &report[from..till];
     let mut marks = Marks {
@@ -99,26 +93,20 @@ fn take_fields(
             return Err(Fault { kind, place: k + 1 });
         }
         marks = marked(marks, column, value);
-        note(
-            starts,
-            lengths,
-            base + column,
-            from + start,
-            field.value.length,
-        );
+        note(row, column, from + start, field.value.length);
         at = field.till + 1;
     }
     Ok(marks)
 }
 
-// Notes at an entry of the index where a value lies; an absent one is not noted.
-fn note(starts: &mut [u16], lengths: &mut [u16], entry: usize, start: usize, length: usize)
-    requires { (entry < length' starts.old) × (entry < length' lengths.old) × (start < 65536) × (length < 65536) }
-    ensures { (starts.new ≡ cond (eqb length 0) starts.old (set starts.old entry start)) × (lengths.new ≡ cond (eqb length 0) lengths.old (set lengths.old entry length)) }
+// Notes in a row where the value of an element lies; an absent one is not noted.
+fn note(row: &mut Row, element: usize, start: usize, length: usize)
+    requires { (element < elements) × (start < 65536) × (length < 65536) }
+    ensures { row.new ≡ noted_in row.old element start length }
 {
     if length != 0 {
-        starts[entry] = start as u16;
-        lengths[entry] = length as u16;
+        row.starts[element] = start as u16;
+        row.lengths[element] = length as u16;
     }
 }
 

@@ -34,8 +34,7 @@ take_line-requires c =
     let loop-test = c.loop-at-test in
     let scan = c.scan-scanned in
     let if2 = c.if-till-report in
-    let slot_of = c.slot_of-slot in
-    line_asks loop.invariant loop-test.true scan.ensures if2.false slot_of.ensures.1
+    line_asks loop.invariant loop-test.true scan.ensures if2.false
 
 pub returns-in-Err : goal.returns-in-Err
 returns-in-Err c =
@@ -64,11 +63,11 @@ loop-at-preserved c =
       | in-Next w ↦
           rw (w.state-is, w.k-is)
           (read_next loop.invariant loop-test.true scan.ensures if2.false take-line.ensures
-          take-line.auto.columns take-line.auto.sets take-line.auto.starts take-line.auto.lengths c.in-Ok.is w.in-Next.is)
+          take-line.auto.columns c.slot_of-slot.ensures.0 c.slot_of-slot.ensures.1 refl c.in-Ok.is w.in-Next.is)
       | in-Noted w ↦
           rw (w.state-is, w.k-is)
           (read_row loop.invariant loop-test.true scan.ensures if2.false take-line.ensures
-          take-line.auto.columns take-line.auto.sets take-line.auto.starts take-line.auto.lengths c.slot_of-slot.ensures.0 c.in-Ok.is w.in-Noted.is)
+          take-line.auto.columns c.slot_of-slot.ensures.0 c.slot_of-slot.ensures.1 refl c.in-Ok.is w.in-Noted.is)
     ]
 
 pub returns : goal.returns

@@ -9,9 +9,6 @@ returns-then-k-ge-ROW_LIMIT c = row_refused (row_many _ _ _ c.if-k-ge-ROW_LIMIT.
 pub returns-then-fields-columns : goal.returns-then-fields-columns
 returns-then-fields-columns c = row_refused (row_count c.requires c.if-k-ge-ROW_LIMIT.false c.if-fields-columns.true)
 
-pub overflow_mul-base : goal.overflow_mul-base
-overflow_mul-base c = omega (arith, c.requires.room.starts_room)
-
 pub take_fields-requires : goal.take_fields-requires
 take_fields-requires c = fields_ask c.requires c.if-k-ge-ROW_LIMIT.false c.if-fields-columns.false
 
@@ -22,9 +19,6 @@ returns-in_err-marks c =
     let if2 = c.if-fields-columns in
     let p = err_from_is_err_and c.from_residual.result c.from_residual.ensures.1 in
     rw (p.1, p.2) (row_refused (row_fields pre if1.false if2.false (wrong_of c.take_fields.ensures c.in_err-marks.was)))
-
-pub bounds-sets-slot : goal.bounds-sets-slot
-bounds-sets-slot c = c.requires.room.sets_room
 
 pub returns : goal.returns
 returns c =

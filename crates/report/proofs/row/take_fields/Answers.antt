@@ -1,3 +1,4 @@
+use Rattle.std.proofs.Common.{rules}
 use mathlib.Core.Path.{refl, sym, ◌∙◌}
 use native.Mathlib.Omega.{arith}
 use Rattle.report.proofs.RowLaws.{fill_start, field_bad, fields_on, fields_end, entry_inside, fields_fit}
@@ -13,7 +14,7 @@ pub slice_bounds-line-end : goal.slice_bounds-line-end
 slice_bounds-line-end c = omega (arith, c.requires.in_text)
 
 pub loop-k-init : goal.loop-k-init
-loop-k-init c = fill_start _ _ _ _ _ _ _ _ c.requires.parts refl
+loop-k-init c = fill_start _ _ _ _ _ _ c.requires.parts (search rules) (search rules) refl
 
 pub returns-in-Err : goal.returns-in-Err
 returns-in-Err c =
@@ -23,12 +24,9 @@ returns-in-Err c =
 pub marked-marks-requires : goal.marked-marks-requires
 marked-marks-requires c = rw c.from-column.ensures (c.requires.known c.loop-k.k c.loop-k-test.true)
 
-pub overflow_add-base : goal.overflow_add-base
-overflow_add-base c = omega (arith, c.from-column.ensures, c.requires.known c.loop-k.k c.loop-k-test.true, c.requires.starts_room)
-
 pub overflow_add-from : goal.overflow_add-from
 overflow_add-from c =
-    omega (arith, c.requires.short, c.requires.order, (entry_inside c.requires c.loop-k.invariant c.field_at-field.ensures c.loop-k-test.true).2)
+    omega (arith, c.requires.short, c.requires.order, (entry_inside c.requires c.loop-k.invariant c.field_at-field.ensures c.loop-k-test.true).1)
 
 pub note-requires : goal.note-requires
 note-requires c = rw c.from-column.ensures (entry_inside c.requires c.loop-k.invariant c.field_at-field.ensures c.loop-k-test.true)
@@ -41,9 +39,8 @@ loop-k-preserved c =
     let column = c.from-column.ensures in
     let fine = rw column at c.fault.ensures in
     let marked = rw column at c.marked-marks.ensures in
-    let start = rw column at c.note.ensures.0 in
-    let length = rw column at c.note.ensures.1 in
-    fields_on c.requires c.loop-k.invariant c.field_at-field.ensures c.loop-k-test.true (sym c.in_default.is ∙ fine) marked start length
+    let noted = rw column at c.note.ensures in
+    fields_on c.requires c.loop-k.invariant c.field_at-field.ensures c.loop-k-test.true (sym c.in_default.is ∙ fine) marked noted
 
 pub returns : goal.returns
 returns c = record { case = fields_end c.requires c.loop-k.invariant (omega (arith, c.loop-k-test.false)) }
