@@ -3,7 +3,6 @@ use Prim.Native.Nat.{ℕ}
 use denote.Ref.{Bor}
 use lib.Dec.{eqb}
 use mathlib.Core.Path.{◌≡◌, refl, sym}
-use mathlib.Core.Bool.{Bool, ◌&&◌, ◌||◌}
 use mathlib.Core.List.{List, [], ◌∷◌}
 use borrow.Author.Tests.{eqb-true, eqb-false, ne_eqb}
 use Rattle.std.specs.Cmp.Lexicographic.{pointwise}
