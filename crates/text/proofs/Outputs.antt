@@ -6,7 +6,7 @@ use native.Mathlib.Nat.{pow-suc, sub-zero}
 use native.Mathlib.Numerals.{add-one}
 use native.Mathlib.Omega.{arith}
 use lib.ListN.{length, replicate, take, drop, set, get_or, length-append, length-drop, length-take, length-set, drop_of_length-le}
-use lib.Seq.{take_at, drop_at, take_all, drop-drop, set_at, drop-cons, take-suc, take-suc-set}
+use lib.Seq.{take_at, drop_at, take_all, drop-drop, set_at, drop-cons, take-suc, take-suc-set, take-take}
 use borrow.Author.Tests.{le-leb, lt-leb}
 use Rattle.std.specs.Int.{from_le_bytes, w64}
 use Rattle.text.specs.Output.{over, put_over, put_length, low_bytes, spelt}
