@@ -30,7 +30,7 @@ use Rattle.layout.proofs.NoShorter.{Cutting, no_shorter}
 use Rattle.layout.proofs.BlockBytes.{written_bytes}
 use Rattle.layout.proofs.Packed.{rows_are, together, valid_rows, rows_valid, shortest}
 use Rattle.pack.specs.Inner.{observations_of, observed, Indexed, SizesAre, mark_in, RowsCut, RoomFor, CutIs, PlannedIs}
-use Rattle.pack.specs.declared.plan.Planned.TheVariants as Planned'
+use Rattle.std.specs.Prelude.{Ok, Err}
 use Rattle.pack.proofs.BlockLaws.{rows_sets}
 use Rattle.pack.proofs.SizeLaws.{noted_size}
 
@@ -180,11 +180,6 @@ module _ {report : List ℕ} {index : Index} (is : read report ≡ accepted (obs
 
 -- Planning.
 
--- A refused report.
-pub plan_refused : {report : List ℕ} {room : ℕ} {index : Index} (cuts : List ℕ) {answer : Checked} {refusal : Refusal} → IndexIs report 0 room index answer
-    → answer ≡ Checked.Refused refusal → PlannedIs report index cuts (Planned'.Refused refusal)
-plan_refused cuts i e = record { case = refused_of i e }
-
 module _ {report : List ℕ} {old index : Index} {sizes marks cuts : List ℕ} {answer : Checked} {k : ℕ}
     (room : RoomFor (length (observed report)) old sizes marks cuts)
     (i : IndexIs report 0 (room_in old.sets old.starts old.lengths) index answer) (sets_kept : length index.sets ≡ length old.sets)
@@ -202,7 +197,7 @@ module _ {report : List ℕ} {old index : Index} {sizes marks cuts : List ℕ} {
 
   -- They are cut.
   pub plan_cut : {filled after : List ℕ} {plan : Plan} → RowsCut index.sets index.lengths filled k cuts after plan
-      → PlannedIs report index after (Planned'.Cut plan)
+      → PlannedIs report index after (Ok plan)
   plan_cut r =
       let a = accepted_of i e in
       record { case = cuts_planned (rw (observed_is report a.is) a.is) noted.1 (rw noted.0 at r) room.cuts_room }

@@ -12,15 +12,6 @@ use Rattle.report.specs.Index.{Sized}
 use Rattle.layout.specs.Cost.{size_of}
 use Rattle.pack.specs.Inner.{SizesAre}
 
--- The sizes of the first rows are filled in, before the others.
-pub sizes_filled : {sets lengths before filled : List ℕ} (rest : List ℕ) {rows count : ℕ} → Sized sets lengths before filled count → count ≡ rows
-    → length filled ≡ rows → SizesAre sets lengths (filled ++ rest) rows
-sizes_filled {filled = filled} rest s c e =
-    record { at = λ i h. let k : i < length filled = omega arith in get_or-append filled rest 0 i k ∙ s.at i (omega arith) }
-
-pub filled_room : (filled rest : List ℕ) (rows : ℕ) → length filled ≡ rows → rows ≤ length (filled ++ rest)
-filled_room filled rest rows e = omega (arith, length-append filled rest)
-
 -- What is noted of an observation, value by value, makes its size.
 pub noted_size : (o : Observation) (lengths : List ℕ) → length lengths ≡ length o
     → ((e : ℕ) → e < length o → is_present (get_or o e []) ≡ true → get_or lengths e 0 ≡ length (get_or o e [])) → bytes_in lengths (set_of o) ≡ size_of o
