@@ -11,7 +11,6 @@ use Rattle.std.proofs.lemmas.Slice.Eq.{slice_eq-Decides}
 use mathlib.Core.List.{List}
 use native.Mathlib.Omega.{arith}
 use lib.ListN.{length, take}
-use lib.Seq.{length-take-le}
 use borrow.Author.Tests.{le-leb, lt-leb}
 use Rattle.text.specs.Part.{same}
 use Rattle.text.proofs.Outputs.{put_room, put_none}
@@ -19,16 +18,13 @@ use Rattle.text.proofs.Bools.{bools}
 use Rattle.text.proofs.Parts.{same_refl, same_is}
 use Rattle.refusal.specs.Paper.{paper, Answer, refused_by, given, request}
 use Rattle.refusal.specs.declared.Kind.TheVariants.{OutputTooShort, CutsDiffer}
-use Rattle.refusal.specs.declared.Refusal.{Refusal}
 use Rattle.element.specs.Observation.{Observation}
-use Rattle.report.specs.Report.{accepted, refused, read}
+use Rattle.report.specs.Report.{accepted, read}
 use Rattle.report.specs.Index.{Index}
 use Rattle.layout.specs.Written.{written}
 use Rattle.cuts.specs.declared.Plan.{Plan}
-use Rattle.pack.specs.Promise.{MeasuredAs, MeasurePromised, WrittenAs, WritePromised}
-use Rattle.pack.specs.Inner.{observed, Wrote, BlocksAsk, CutIs, PlannedIs, Given}
-use Rattle.pack.specs.declared.Measured.{Measured}
-use Rattle.std.specs.Prelude.{Result, Ok, Err}
+use Rattle.pack.specs.Promise.{WrittenAs, WritePromised}
+use Rattle.pack.specs.Inner.{observed, Wrote, BlocksAsk, CutIs}
 
 -- ---- whether two lists are the same
 

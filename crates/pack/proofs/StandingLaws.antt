@@ -1,17 +1,17 @@
 -- Laws of lines that stand in the report as they are to be written, field by field.
 use Prim.Native.Nat.{ℕ, ◌+◌, ◌-◌, ◌*◌, ◌/◌, ◌%◌, ◌^◌, ◌≤◌, ◌<◌, suc}
 use mathlib.Core.Path.{◌≡◌, refl, sym, ap, ◌∙◌}
-use mathlib.Core.List.{List, [], ◌∷◌, ◌++◌, append-nil, append_assoc, map}
+use mathlib.Core.List.{List, [], ◌∷◌, ◌++◌, append_assoc, map}
 use native.Mathlib.Numerals.{add-one}
 use native.Mathlib.Omega.{arith}
-use lib.ListN.{length, take, drop, get_or, length-append, length-take, length-drop, length-map, drop_of_length-le}
+use lib.ListN.{length, take, drop, get_or, length-append, length-drop, length-map}
 use lib.Seq.{take-add, take-suc, drop-drop, get_or-drop}
 use Rattle.element.specs.Table.{elements}
 use Rattle.report.specs.Index.{Index}
 use Rattle.layout.specs.Written.{line_of}
 use Rattle.pack.specs.Inner.{observed, Indexed, value_in, end_of, field_text, StandsTo}
 use Rattle.pack.proofs.IndexLaws.{value_absent, value_long, value_there}
-use Rattle.pack.proofs.FieldLaws.{line_left, line_left_lem, line_next, map_at}
+use Rattle.pack.proofs.FieldLaws.{line_left, line_next, map_at}
 
 -- A value, and the byte after it.
 pub stand_field : (report value : List ℕ) (start end r : ℕ) → take (length value) (drop start report) ≡ value

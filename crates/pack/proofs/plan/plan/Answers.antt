@@ -6,11 +6,11 @@ pub cut_rows-requires : goal.cut_rows-requires
 cut_rows-requires c =
     let pre = c.requires in
     let index = c.index in
-    rows_ask pre index.ensures index.auto.sets index.auto.starts index.auto.lengths c.in-Accepted.is
+    rows_ask pre index.ensures index.auto.sets index.auto.starts index.auto.lengths c.in_ok-rows.was
 
-pub returns-in-Accepted : goal.returns-in-Accepted
-returns-in-Accepted c =
+pub returns : goal.returns
+returns c =
     let pre = c.requires in
     let index = c.index in
     let cut-rows = c.cut_rows in
-    plan_cut pre index.ensures index.auto.sets index.auto.starts index.auto.lengths c.in-Accepted.is cut-rows.ensures
+    plan_cut pre index.ensures index.auto.sets index.auto.starts index.auto.lengths c.in_ok-rows.was cut-rows.ensures
