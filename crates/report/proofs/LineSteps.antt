@@ -78,10 +78,7 @@ pub row_asks : {t columns : List ℕ} {x : Index} {from till parts slot : ℕ} {
 row_asks {columns = columns} {s = s} a =
     let e : length (take s.columns columns) ≡ s.columns = length-take-le s.columns columns (omega (arith, a.known.few, a.wide)) in
     record {
-      order = a.order;
-      in_text = a.in_text;
-      short = a.short;
-      parts_are = a.parts_are;
+      lies = a.lies;
       room = a.room;
       few = omega (arith, e, a.known.few);
       known = λ j b. let b' : j < s.columns = omega arith in rw (get_or-take s.columns columns j 0 b') (a.known.known j b');

@@ -194,10 +194,12 @@ module _ {t columns : List ℕ} {first room : ℕ} {x₀ x : Index} {at number k
       line_asks b =
           let r = rest_of t at v.at_most in (
             record {
-              order = omega arith;
-              in_text = inside;
-              short = omega (arith, inside, v.short);
-              parts_are = c.parts_is ∙ ap (λ (l : List ℕ). length (fields l)) (ap (λ (l : List ℕ). first_line l) r ∙ sym line_is);
+              lies = record {
+                order = omega arith;
+                in_text = inside;
+                short = omega (arith, inside, v.short);
+                parts_are = c.parts_is ∙ ap (λ (l : List ℕ). length (fields l)) (ap (λ (l : List ℕ). first_line l) r ∙ sym line_is);
+              };
               room = record {
                 sets_room = omega (arith, v.room_is.sets_room);
                 starts_room = omega (arith, v.room_is.starts_room);

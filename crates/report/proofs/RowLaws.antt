@@ -219,8 +219,8 @@ module _ {t columns st₀ ln₀ st ln : List ℕ} {from till base a k : ℕ} {m 
     entry_inside = (
       omega (arith, asks.known k h, asks.starts_room, s.starts_long),
       omega (arith, asks.known k h, asks.lengths_room, s.lengths_long),
-      omega (arith, fields_inside, asks.order, asks.short),
-      omega (arith, fields_inside, asks.order, asks.short),
+      omega (arith, fields_inside, asks.lies.order, asks.lies.short),
+      omega (arith, fields_inside, asks.lies.order, asks.lies.short),
     )
 
     -- The value is right, its marks are put on and it is noted.
@@ -266,7 +266,7 @@ module _ {t columns st₀ ln₀ st ln : List ℕ} {from till base a k : ℕ} {m 
       shows' =
           noted_on t st ln base (get_or columns k 0) (from + start) size s.sofar s.at value st' ln' (asks.known k h) s.wide s.at_wide
           (omega (arith, asks.starts_room, s.starts_long)) (omega (arith, asks.lengths_room, s.lengths_long))
-          (omega (arith, fields_inside, asks.order, asks.in_text, size_is)) holds size_is es el s.shows
+          (omega (arith, fields_inside, asks.lies.order, asks.lies.in_text, size_is)) holds size_is es el s.shows
 
       starts_kept' : Kept st₀ st' base
       starts_kept' = kept_on st₀ st st' base (get_or columns k 0) size (from + start) (asks.known k h) es s.starts_kept
@@ -352,14 +352,11 @@ row_many columns k l h = rw (le-ltb k row_limit h)
 module _ {t columns : List ℕ} {x : Index} {from till parts slot k : ℕ} (asks : RowAsks t columns x from till parts slot) (h : k < row_limit) where
   pub row_count : (parts ≡ length columns → ⊥) → data_line columns k (between t from till) ≡ bad FieldCountDiffers 0
   unfolding data_line
-  row_count n = rw (lt-ltb k row_limit h, ne_eqb (length (fields (between t from till))) (length columns) (λ e. n (asks.parts_are ∙ e)))
+  row_count n = rw (lt-ltb k row_limit h, ne_eqb (length (fields (between t from till))) (length columns) (λ e. n (asks.lies.parts_are ∙ e)))
 
   pub fields_ask : parts ≡ length columns → FieldsAsk t columns x.starts x.lengths from till (slot * elements)
   fields_ask c = record {
-    parts = sym asks.parts_are ∙ c;
-    order = asks.order;
-    in_text = asks.in_text;
-    short = asks.short;
+    lies = rw c at asks.lies;
     starts_room = asks.room.starts_room;
     lengths_room = asks.room.lengths_room;
     few = asks.few;
@@ -368,7 +365,7 @@ module _ {t columns : List ℕ} {x : Index} {from till parts slot k : ℕ} (asks
 
   module _ (c : parts ≡ length columns) where
     count_is : length (fields (between t from till)) ≡ length columns
-    count_is = sym asks.parts_are ∙ c
+    count_is = sym asks.lies.parts_are ∙ c
 
     pub row_fields : {fault : Fault} → field_fault 1 columns (fields (between t from till)) ≡ Err fault
         → data_line columns k (between t from till) ≡ bad fault.kind fault.place

@@ -26,6 +26,13 @@ use Rattle.report.specs.declared.state.Taken.{Taken}
 abbrev pub between : List ℕ → ℕ → ℕ → List ℕ
 between t from till = take (till - from) (drop from t)
 
+-- A line of a text, between two places, with so many fields.
+pub record LineIn (t : List ℕ) (from till parts : ℕ) : Type 0 where
+  pub order : from ≤ till
+  pub in_text : till < length t
+  pub short : till < 65536
+  pub parts_are : parts ≡ length (fields (between t from till))
+
 -- The reader's state as the definition has it: the columns are the first of the list.
 abbrev pub state_of : CodeState → List ℕ → State
 state_of s columns = record { need = s.need; columns = take s.columns columns; radar = s.radar }
@@ -93,10 +100,7 @@ Kept old now base =
     ((j : ℕ) → j < base → get_or now j 0 ≡ get_or old j 0) × ((j : ℕ) → base + elements ≤ j → get_or now j 0 ≡ get_or old j 0)
 
 pub record FieldsAsk (t columns starts lengths : List ℕ) (from till base : ℕ) : Type 0 where
-  pub parts : length (fields (between t from till)) ≡ length columns
-  pub order : from ≤ till
-  pub in_text : till < length t
-  pub short : till < 65536
+  pub lies : LineIn t from till (length columns)
   pub starts_room : base + elements ≤ length starts
   pub lengths_room : base + elements ≤ length lengths
   pub few : length columns ≤ elements
@@ -127,10 +131,7 @@ pub record Room (x : Index) (slot : ℕ) : Type 0 where
   pub lengths_room : slot * elements + elements ≤ length x.lengths
 
 pub record RowAsks (t columns : List ℕ) (x : Index) (from till parts slot : ℕ) : Type 0 where
-  pub order : from ≤ till
-  pub in_text : till < length t
-  pub short : till < 65536
-  pub parts_are : parts ≡ length (fields (between t from till))
+  pub lies : LineIn t from till parts
   pub room : Room x slot
   pub few : length columns ≤ elements
   pub known : (k : ℕ) → k < length columns → get_or columns k 0 < elements
@@ -200,10 +201,7 @@ pub record TookLine (t columns columns' : List ℕ) (x y : Index) (from till slo
   pub case : LineCase t columns columns' x y from till slot k old taken r
 
 pub record LineAsks (t columns : List ℕ) (x : Index) (from till parts slot : ℕ) (s : CodeState) : Type 0 where
-  pub order : from ≤ till
-  pub in_text : till < length t
-  pub short : till < 65536
-  pub parts_are : parts ≡ length (fields (between t from till))
+  pub lies : LineIn t from till parts
   pub room : Room x slot
   pub wide : elements ≤ length columns
   pub known : Known s columns

@@ -5,6 +5,7 @@ ghost use Rattle.report.specs.Index.{lent};
 ghost use Rattle.report.specs.Inner.{mark_on, held_by, FieldsAsk, FieldsAre, RowAsks, RowIs};
 
 use crate::ROW_LIMIT;
+use crate::line::Line;
 use element::observation::{is_radar, observation_fault};
 use element::{ELEMENTS, form};
 use refusal::{Fault, Kind};
@@ -21,9 +22,7 @@ pub struct Marks {
 // observation, which is noted in the index at a slot, 21. It says whether its observation is radar.
 pub(crate) fn data_line(
     report: &[u8],
-    from: usize,
-    till: usize,
-    fields: usize,
+    line: Line,
     columns: &[u8],
     sets: &mut [u64],
     starts: &mut [u16],
@@ -32,8 +31,8 @@ pub(crate) fn data_line(
     k: usize,
     before: Option<bool>,
 ) -> Result<bool, Fault>
-    requires { RowAsks report.now columns.now (lent sets.old starts.old lengths.old) from till fields slot }
-    ensures { RowIs report.now columns.now (lent sets.old starts.old lengths.old) (lent sets.new starts.new lengths.new) from till slot k before result }
+    requires { RowAsks report.now columns.now (lent sets.old starts.old lengths.old) line.from line.till line.fields slot }
+    ensures { RowIs report.now columns.now (lent sets.old starts.old lengths.old) (lent sets.new starts.new lengths.new) line.from line.till slot k before result }
 {
     if k >= ROW_LIMIT {
         return Err(Fault {
@@ -41,14 +40,14 @@ pub(crate) fn data_line(
             place: 0,
         });
     }
-    if fields != columns.len() {
+    if line.fields != columns.len() {
         return Err(Fault {
             kind: Kind::FieldCountDiffers,
             place: 0,
         });
     }
     let base = slot * ELEMENTS;
-    let marks = take_fields(report, from, till, columns, starts, lengths, base)?;
+    let marks = take_fields(report, line, columns, starts, lengths, base)?;
     sets[slot] = marks.present;
     held(marks, before)
 }
@@ -69,20 +68,19 @@ fn held(marks: Marks, before: Option<bool>) -> Result<bool, Fault>
     })
 }
 
-// The fields of the data line from..till: the first fault, or the marks of its observation; where each value lies is noted from entry base on.
+// The fields of a data line: the first fault, or the marks of its observation; where each value lies is noted from entry base on.
 fn take_fields(
     report: &[u8],
-    from: usize,
-    till: usize,
+    line: Line,
     columns: &[u8],
     starts: &mut [u16],
     lengths: &mut [u16],
     base: usize,
 ) -> Result<Marks, Fault>
-    requires { FieldsAsk report.now columns.now starts.old lengths.old from till base }
-    ensures { FieldsAre report.now columns.now starts.old lengths.old starts.new lengths.new from till base result }
+    requires { FieldsAsk report.now columns.now starts.old lengths.old line.from line.till base }
+    ensures { FieldsAre report.now columns.now starts.old lengths.old starts.new lengths.new line.from line.till base result }
 {
-    let line = &report[from..till];
+    let text = &report[line.from..line.till];
     let mut marks = Marks {
         present: 0,
         wgs84: false,
@@ -90,10 +88,10 @@ fn take_fields(
     };
     let mut at: usize = 0;
     for (k, column) in columns.iter().enumerate() {
-        let field = text::lines::field_at(line, at);
+        let field = text::lines::field_at(text, at);
         let start = field.value.start;
         let end = start + field.value.length;
-        let value = &line[start..end];
+        let value = &text[start..end];
         let column = usize::from(*column);
         if let Err(kind) = form::fault(column, value) {
             return Err(Fault { kind, place: k + 1 });
@@ -103,7 +101,7 @@ fn take_fields(
             starts,
             lengths,
             base + column,
-            from + start,
+            line.from + start,
             field.value.length,
         );
         at = field.till + 1;

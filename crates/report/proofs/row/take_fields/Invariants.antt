@@ -2,4 +2,4 @@ use Rattle.report.proofs.RowLaws.{Filling}
 use Rattle.report.proofs.row.take_fields.Given as goal
 
 abbrev pub invariant-loop-k : goal.invariant-loop-k
-invariant-loop-k l = Filling l.report l.columns l.initial.starts l.initial.lengths l.starts l.lengths l.from l.till l.base l.at l.k l.marks
+invariant-loop-k l = Filling l.report l.columns l.initial.starts l.initial.lengths l.starts l.lengths l.line.from l.line.till l.base l.at l.k l.marks
