@@ -1,12 +1,12 @@
 -- The account of a block's length, part by part.
-use Rattle.std.specs.Prelude.{ℕ, suc, ◌*◌, ◌^◌, ◌≡◌, Bool, cond, ◌&&◌, List, [], ◌∷◌, eqb, leb, length, get_or}
+use Rattle.std.specs.Prelude.{ℕ, ◌*◌, ◌^◌, cond, ◌&&◌, List, [], eqb, leb, length, get_or}
 use Rattle.std.specs.Bool.{beq}
 use Rattle.std.specs.Int.Count.{ones}
+use Rattle.std.specs.List.{prefix_len}
 use Rattle.element.specs.Set.{name_bytes}
 use Rattle.element.specs.Observation.{is_radar_set}
 use Rattle.cuts.specs.Block.{Row, most_rows, rows_of, union, value_bytes, row_count, bytes_of}
 use Rattle.account.specs.declared.Block.{Block}
-use Rattle.account.specs.declared.Gathering.{Gathering}
 
 -- The most bytes of values that rows within the limit can have together.
 abbrev pub value_limit : ℕ
@@ -33,25 +33,10 @@ unfoldable pub accounted : List ℕ → List ℕ → Block
 accounted sets sizes =
     cond (leb (length sets) most_rows && eqb (length sizes) (length sets)) (account_of (rows_of sets sizes)) (account_of [])
 
--- What the rows hold together.
-pub record Gathered (rows : List Row) (r : Gathering) : Type 0 where
-  pub set_is : r.set ≡ union 0 rows
-  pub values_are : r.values ≡ value_bytes rows
-
--- How many numbers from the first on equal a number.
-unfoldable pub leading_like : ℕ → List ℕ → ℕ
-leading_like set [] = 0
-leading_like set (other ∷ others) = cond (eqb other set) (suc (leading_like set others)) 0
-
 -- How many rows from the first on have the set of the first.
-abbrev pub alike : List ℕ → ℕ
-alike sets = leading_like (get_or sets 0 0) sets
+unfoldable pub alike : List ℕ → ℕ
+alike sets = prefix_len (λ set. eqb set (get_or sets 0 0)) sets
 
--- How many sets from the first on are those of radar observations, or of optical ones.
-unfoldable pub leading_kind : Bool → List ℕ → ℕ
-leading_kind radar [] = 0
-leading_kind radar (set ∷ sets) = cond (beq radar (is_radar_set set)) (suc (leading_kind radar sets)) 0
-
--- How many rows from the first on are of the kind of the first.
-abbrev pub of_one_kind : List ℕ → ℕ
-of_one_kind sets = leading_kind (is_radar_set (get_or sets 0 0)) sets
+-- How many rows from the first on are of the kind of the first, optical or radar.
+unfoldable pub of_one_kind : List ℕ → ℕ
+of_one_kind sets = prefix_len (λ set. beq (is_radar_set set) (is_radar_set (get_or sets 0 0))) sets

@@ -1,11 +1,11 @@
 // The account of a block's length: 15, plus name lengths, plus one a column, plus values, plus rows times columns.
 #![tactic(auto)]
 
-ghost use Rattle.std.specs.Prelude.{◌≡◌, ◌^◌, ◌≤◌, ◌<◌, length};
-ghost use Rattle.std.specs.Bool.{beq};
-ghost use Rattle.element.specs.Observation.{is_radar_set};
-ghost use Rattle.cuts.specs.Block.{most_rows, rows_of};
-ghost use Rattle.account.specs.Account.{value_limit, closed, accounted, Gathered, alike, of_one_kind};
+ghost use Rattle.std.specs.Prelude.{◌≡◌, ◌≤◌, length};
+ghost use Rattle.std.specs.Int.Bits.{bit_or};
+ghost use Rattle.std.specs.List.{fold};
+ghost use Rattle.cuts.specs.Block.{most_rows, total};
+ghost use Rattle.account.specs.Account.{value_limit, closed, accounted, alike, of_one_kind};
 
 use element::observation::is_radar;
 use element::set;
@@ -23,29 +23,19 @@ pub struct Block {
     pub bytes: u64,
 }
 
-// What rows hold together: their elements and the bytes of their values.
-#[derive(Clone, Copy)]
-struct Gathering {
-    set: u64,
-    values: u64,
-}
-
 // The account of a block of the rows with these sets of elements and these bytes of values. Where there are more than 1,024 rows, or
 // not as many sizes as sets, it is that of no rows.
 pub fn account(sets: &[u64], sizes: &[u32]) -> Block
     ensures { result ≡ accounted sets.now sizes.now }
 {
-    if MOST_ROWS < sets.len() {
+    if MOST_ROWS < sets.len() || sizes.len() != sets.len() {
         return close(0, 0, 0);
     }
-    if sizes.len() != sets.len() {
-        return close(0, 0, 0);
-    }
-    let gathered = gather(sets, sizes);
-    close(gathered.set, gathered.values, sets.len() as u64)
+    close(union(sets), total(sizes), sets.len() as u64)
 }
 
 // The account of a block from its set of elements, the bytes of its values and the number of its rows.
+#[tactic(auto, using(element::proofs::Sets::names_low, crate::proofs::AccountLaws::cells_small), unfolding(crate::specs::Account::closed, cuts::specs::Block::bytes_of))]
 fn close(set: u64, values: u64, rows: u64) -> Block
     requires { (values ≤ value_limit) × (rows ≤ most_rows) }
     ensures { result ≡ closed set values rows }
@@ -53,72 +43,53 @@ fn close(set: u64, values: u64, rows: u64) -> Block
     let names = set::name_bytes(set);
     let columns = set::count(set);
     Block {
-        rows: rows,
-        columns: columns,
-        names: names,
-        values: values,
+        rows,
+        columns,
+        names,
+        values,
         bytes: 15 + names + columns + values + rows * columns,
     }
 }
 
-// What rows with these sets and sizes hold together.
-fn gather(sets: &[u64], sizes: &[u32]) -> Gathering
-    requires { (length sets.now ≤ most_rows) × (length sizes.now ≡ length sets.now) }
-    ensures { Gathered (rows_of sets.now sizes.now) result × (result.values ≤ value_limit) }
+// The elements of these sets together.
+fn union(sets: &[u64]) -> u64
+    ensures { result ≡ fold bit_or 0 sets.now }
 {
-    let mut set: u64 = 0;
-    let mut values: u64 = 0;
-    let mut i: usize = 0;
-    while i < sets.len() {
-        set = set | sets[i];
-        values += wide_size(sizes[i]);
-        i += 1;
-    }
-    Gathering {
-        set: set,
-        values: values,
-    }
+    sets.iter().fold(0, |all, set| all | *set)
 }
 
-// A size as a wider number.
-fn wide_size(size: u32) -> u64
-    ensures { (result ≡ size) × (result < 2 ^ 32) }
+// All sizes together.
+#[tactic(auto, using(cuts::proofs::SumLaws::total_sum))]
+fn total(sizes: &[u32]) -> u64
+    requires { length sizes.now ≤ most_rows }
+    ensures { result ≡ total sizes.now }
 {
-    size as u64
+    sizes.iter().map(|size| u64::from(*size)).sum()
 }
 
 // How many rows from the first on have the set of the first.
+#[tactic(auto, unfolding(crate::specs::Account::alike))]
 pub fn like_rows(sets: &[u64]) -> usize
     ensures { (result ≡ alike sets.now) × (result ≤ length sets.now) }
 {
-    let mut i: usize = 0;
-    while i < sets.len() {
-        if sets[i] != sets[0] {
-            return i;
-        }
-        i += 1;
+    match sets {
+        [] => 0,
+        [first, ..] => sets.iter().take_while(|set| **set == *first).count(),
     }
-    i
 }
 
 // How many rows from the first on are of the kind of the first, optical or radar.
+#[tactic(auto, unfolding(crate::specs::Account::of_one_kind))]
 pub fn rows_of_kind(sets: &[u64]) -> usize
     ensures { (result ≡ of_one_kind sets.now) × (result ≤ length sets.now) }
 {
-    let mut i: usize = 0;
-    while i < sets.len() {
-        if is_same_kind(sets[0], sets[i]) {
-            i += 1;
-        } else {
-            return i;
+    match sets {
+        [] => 0,
+        [first, ..] => {
+            let radar = is_radar(*first);
+            sets.iter()
+                .take_while(|set| is_radar(**set) == radar)
+                .count()
         }
     }
-    i
-}
-
-// Whether observations with these sets of elements are both radar or both optical.
-fn is_same_kind(first: u64, second: u64) -> bool
-    ensures { result ≡ beq (is_radar_set first) (is_radar_set second) }
-{
-    is_radar(first) == is_radar(second)
 }

@@ -10,10 +10,10 @@ use lib.Seq.{drop-cons, drop-drop}
 use mir.Syntax.{w64}
 use mir.Val.{Fits}
 use native.Mathlib.Nat.{le_trans}
+use Rattle.std.specs.Prelude.{Option, Some, None}
 use Rattle.cuts.specs.Cheapest.{last_least, best_costs, first_more, first_blocks}
-use Rattle.cuts.specs.Block.{most_rows, Row, union, block_bytes, all_more}
-use Rattle.cuts.specs.Look.{block_limit, head_of, end_cost, Small, TailIs, BestEnd, FoundIs, Fit, Filled, Best}
-use Rattle.cuts.specs.declared.block.Head.{Head}
+use Rattle.cuts.specs.Block.{most_rows, Row, block_bytes, all_more}
+use Rattle.cuts.specs.Look.{block_limit, end_cost, Small, TailIs, TailOf, TailBehind, BestEnd, FoundIs, Fit, Filled, Best}
 use Rattle.cuts.specs.declared.tail.Tail.{Tail}
 use Rattle.cuts.specs.declared.tail.Found.{Found}
 use Rattle.cuts.proofs.SumLaws.{end, end_is, drop_set, no_row, values_drop_le, count_drop_le}
@@ -99,11 +99,11 @@ module _ (more : Row → List Row → ℕ) (runs : List Row) (costs firsts : Lis
 module _ (runs : List Row) (costs firsts : List ℕ) (fit : Fit runs costs firsts) (j : ℕ) (h : j < length runs)
     (f : Filled all_more runs (j + 1) costs firsts) where
   -- The tail of the runs after j is that of what is lent, without its first run.
-  pub tail_lent : (tail : Tail) → TailIs (drop (j + 1) runs) (drop (j + 2) costs) tail
-      → TailIs (drop 1 (end runs j)) (drop 1 (end costs (j + 1))) tail
+  pub tail_lent : (tail : Option Tail) → TailOf (drop (j + 1) runs) (drop (j + 2) costs) tail
+      → TailBehind (end runs j) (end costs (j + 1)) tail
   tail_lent tail t =
       let two : j + 1 + 1 ≡ j + 2 = omega arith in
-      subst₂ (λ (l : List Row) (c : List ℕ). TailIs l c tail)
+      subst₂ (λ (l : List Row) (c : List ℕ). TailOf l c tail)
       (sym (ap (drop 1) (end_is runs j) ∙ drop-drop 1 j runs))
       (sym (ap (drop 1) (end_is costs (j + 1)) ∙ drop-drop 1 (j + 1) costs ∙ ap (λ (n : ℕ). drop n costs) two))
       t
@@ -164,13 +164,12 @@ fill_end more runs costs firsts fit =
     }
 
 -- Nor has it a tail.
-pub tail_end : (runs : List Row) (costs firsts : List ℕ) → Fit runs costs firsts → (head : Head) → head ≡ head_of 0
-    → TailIs (drop (length runs) runs) (drop (length runs + 1) (set costs (length runs) 0)) (record { head = head; from = 0; best = 0; cost = 0 })
-unfolding union
-tail_end runs costs firsts fit head e =
-    let none : drop (length runs) runs ≡ [] =
-    drop_of_length-le runs {i = length runs} (omega arith) in
-    rw none (record { head = e; passed = record { within = omega arith; ends = λ h. absurd (omega arith) }; near = omega arith; low = omega arith })
+pub tail_end : (runs : List Row) (after : List ℕ) → TailOf (drop (length runs) runs) after None
+tail_end runs after = record { case = omega (arith, length-drop (length runs) runs) }
+
+-- The tail that a run gives.
+pub tail_some : (runs : List Row) (after : List ℕ) (tail : Tail) → TailIs runs after tail → TailOf runs after (Some tail)
+tail_some runs after tail t = record { case = t }
 
 -- Lists that are filled in are as long as they were.
 module _ (more : Row → List Row → ℕ) (runs : List Row) (costs firsts filledCosts filledFirsts : List ℕ) (i : ℕ) (fit : Fit runs costs firsts)
@@ -195,4 +194,4 @@ pub filled_all : (more : Row → List Row → ℕ) (runs : List Row) (i : ℕ) (
 filled_all more runs zero costs firsts h f = record { costs_are = f.costs_are; firsts_are = f.firsts_are }
 filled_all more runs (suc i) costs firsts h f = absurd (omega arith)
 
-pub ruleset fill_all_needs = (fill_end, tail_end, fit_filled, costs_kept, firsts_kept, filled_all)
+pub ruleset fill_all_needs = (fill_end, tail_end, tail_some, fit_filled, costs_kept, firsts_kept, filled_all)

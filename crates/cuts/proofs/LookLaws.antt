@@ -12,7 +12,7 @@ use native.Mathlib.Nat.{zero-add}
 use mir.Syntax.{w64}
 use mir.Val.{Fits}
 use Rattle.cuts.specs.Block.{most_rows, most_bytes, Row, row, union, value_bytes, row_count, bytes_of}
-use Rattle.cuts.specs.Look.{block_limit, head_of, end_cost, Looked, IsFull, LookedNear, Small}
+use Rattle.cuts.specs.Look.{block_limit, head_of, end_cost, Looked, IsFull, Small}
 use Rattle.cuts.specs.declared.block.Head.{Head}
 use Rattle.cuts.specs.declared.ends.Look.{Look}
 use Rattle.cuts.proofs.SumLaws.{no_row, union_take, values_take, count_take, values_take_le, count_take_le, block_take}
@@ -217,9 +217,6 @@ pub record Nearing (runs : List Row) (after : List ℕ) (l : Look) : Type 0 wher
   pub start : l.from ≡ 0
   pub soon : (k : ℕ) → k < l.end → IsFull runs k → ⊥
 
-pub near_start : (runs : List Row) (after : List ℕ) (l : Look) → Looked runs after l × (l.from ≡ 0) × (l.end ≡ 0) → Nearing runs after l
-near_start runs after l s = record { looked = s.0; start = s.1; soon = λ k i e. omega (arith, s.2) }
-
 module _ (runs : List Row) (after : List ℕ) (columns : ℕ) (all : columns ≡ union 0 runs) (l : Look) (s : Nearing runs after l) where
   -- The columns with the last end are those that the head says.
   head_is : l.head.columns ≡ union 0 (take (suc l.end) runs)
@@ -233,32 +230,6 @@ module _ (runs : List Row) (after : List ℕ) (columns : ℕ) (all : columns ≡
         go : Dec (length runs ≤ suc l.end) → l.end + 1 < length runs
         go (yes g) = absurd (h (head_is ∙ ap (union 0) (take_all (suc l.end) runs g) ∙ sym all))
         go (no g) = omega arith
-
-    pub near_more : (m : Look) → Looked runs after m × (m.from ≡ l.from) × (m.end ≡ l.end + 1) → Nearing runs after m
-    near_more m t = record {
-      looked = t.0;
-      start = t.1 ∙ s.start;
-      soon = λ k i. go k i (dec_le (suc k) l.end);
-    }
-      where
-        go : (k : ℕ) → k < m.end → Dec (suc k ≤ l.end) → IsFull runs k → ⊥
-        go k i (yes g) f = s.soon k g f
-        go k i (no g) f =
-            let e : l.end ≡ k = omega (arith, t.2) in
-            h (head_is ∙ (ap (λ (n : ℕ). union 0 (take (suc n) runs)) e ∙ (f ∙ sym all)))
-
-  -- Where it is not, it is the first.
-  pub near_end : l.head.columns ≡ columns → LookedNear runs after l
-  near_end e = record {
-    looked = s.looked;
-    start = s.start;
-    full = sym head_is ∙ e ∙ all;
-    first = λ k f. go k f (dec_le l.end k);
-  }
-    where
-      go : (k : ℕ) → IsFull runs k → Dec (l.end ≤ k) → l.end ≤ k
-      go k f (yes g) = g
-      go k f (no g) = absurd (s.soon k (omega arith) f)
 
 pub ruleset first_needs = (head_own, start_small, start_few, cost_fits, start_looked)
 

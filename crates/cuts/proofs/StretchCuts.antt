@@ -6,7 +6,7 @@ use mathlib.Core.List.{List, [], ◌∷◌, ◌++◌}
 use mathlib.Core.Logic.{inl, inr}
 use Prim.Native.Nat.{ℕ, zero, suc, ◌+◌, ◌≤◌}
 use native.Mathlib.Omega.{arith}
-use borrow.Author.Tests.{eq-eqb, ne_eqb, eqb-true}
+use borrow.Author.Tests.{eq-eqb, eqb-true}
 use lib.Dec.{eqb}
 use lib.ListN.{length, take, drop, take-append-drop}
 use lib.Seq.{take-append-le, drop-append-le}
@@ -18,14 +18,10 @@ module _ {A : Type 0} (mark : A → ℕ) where
   AllMarked m [] = Unit
   AllMarked m (x ∷ xs) = (mark x ≡ m) × AllMarked m xs
 
-  -- The first row is in the stretch where it has the mark, else the stretch is empty.
+  -- The first row is in the stretch where it has the mark.
   pub stretch_more : (m : ℕ) (x : A) (xs : List A) → mark x ≡ m → stretch mark m (x ∷ xs) ≡ suc (stretch mark m xs)
   unfolding stretch
   stretch_more m x xs e = rw (eq-eqb (mark x) m e)
-
-  pub stretch_ends : (m : ℕ) (x : A) (xs : List A) → (mark x ≡ m → ⊥) → stretch mark m (x ∷ xs) ≡ 0
-  unfolding stretch
-  stretch_ends m x xs n = rw (ne_eqb (mark x) m n)
 
   -- The rows of a stretch have its mark, and the row after it has another.
   stretch_marked : (m : ℕ) (xs : List A) → AllMarked m (take (stretch mark m xs) xs)

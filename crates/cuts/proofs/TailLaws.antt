@@ -5,18 +5,17 @@ use mathlib.Core.Bool.{Bool, true, false}
 use mathlib.Core.List.{List, [], ◌∷◌}
 use Prim.Native.Nat.{ℕ, ◌≤◌, ◌<◌, zero, suc, ◌+◌, ◌-◌, ◌*◌, ◌^◌}
 use native.Mathlib.Omega.{arith}
-use native.Mathlib.Nat.{mul-le-mul}
 use native.Mathlib.Numerals.{add-one}
 use lib.Bits.{bit_or, or_comm, or_self}
-use lib.Count.{ones, ones-le}
-use lib.Dec.{leb, ltb}
-use lib.ListN.{length, take, drop, get_or, length-drop}
+use lib.Count.{ones}
+use lib.Dec.{leb}
+use lib.ListN.{length, take, drop, get_or}
 use lib.Seq.{drop-cons}
-use borrow.Author.Tests.{leb-true, leb-false, ltb-true, ltb-false, lt-ltb, le-ltb, le-leb, lt-leb}
-use mir.Syntax.{w64}
-use mir.Val.{Fits}
+use borrow.Author.Tests.{leb-true, leb-false}
+use Rattle.std.specs.Prelude.{Option, Some, None}
+use Rattle.std.proofs.lemmas.List.{nil_from_length}
 use Rattle.cuts.specs.Block.{Row, union, value_bytes, row_count, bytes_of, block_bytes}
-use Rattle.cuts.specs.Look.{block_limit, head_of, end_cost, LeastIn, IsFull, LookedNear, LookedFar, Small, Ends, Passed, TailIs, tail_with, tail_if, tail_of, found_if, found_of, FoundIs}
+use Rattle.cuts.specs.Look.{block_limit, head_of, end_cost, LeastIn, IsFull, LookedNear, LookedFar, Small, Ends, Late, Passed, passed_from, TailIs, TailOf, TailBehind, columns_of, tail_with, tail_if, tail_of, found_if, found_of, FoundIs}
 use Rattle.cuts.specs.declared.block.Head.{Head}
 use Rattle.cuts.specs.declared.ends.Look.{Look}
 use Rattle.cuts.specs.declared.tail.Tail.{Tail}
@@ -24,7 +23,6 @@ use Rattle.cuts.specs.declared.tail.Found.{Found}
 use Rattle.cuts.proofs.SumLaws.{no_row}
 use Rattle.cuts.proofs.UnionLaws.{or_swap}
 use Rattle.cuts.proofs.LeastLaws.{least_far, least_near, least_pass}
-use Rattle.cuts.proofs.LookLaws.{start_small, start_few}
 
 -- ---- all columns
 
@@ -87,19 +85,14 @@ module _ (x : Row) (xs : List Row) (a : ℕ) (t : List ℕ) (e : bit_or (union 0
 
   -- The tail without it, passed on.
   passed_more : (tail : Tail) (c : ℕ) → TailIs xs t tail → c ≡ tail.cost + (x.size + x.count * ones (union 0 xs))
-      → Passed (x ∷ xs) (a ∷ t) (record { head = tail.head; from = tail.from + 1; best = tail.best + 1; cost = c })
+      → Late (x ∷ xs) (a ∷ t) (record { head = tail.head; from = tail.from + 1; best = tail.best + 1; cost = c })
   passed_more tail c r q = record {
-    within = omega (arith, r.passed.within);
-    ends = λ h.
-        rw (add-one tail.from, add-one tail.best, q)
-        (pass_ends tail.from tail.best tail.cost (omega arith) (r.passed.ends (omega arith)));
+    within = omega (arith, r.late.within);
+    ends = rw (add-one tail.from, add-one tail.best, q) (pass_ends tail.from tail.best tail.cost r.late.within r.late.ends);
   }
 
 -- As the code has it: w and n are the size and the rows of the first run.
-module _ (runs : List Row) (after : List ℕ) (small : Small runs after) (tail : Tail) (r : TailIs (drop 1 runs) (drop 1 after) tail) where
-  columns_are : tail.head.columns ≡ union 0 (drop 1 runs)
-  columns_are = ap (λ (h : Head). h.columns) r.head
-
+module _ (runs : List Row) (after : List ℕ) (small : Small runs after) where
   runs_ahead : runs ≡ get_or runs 0 no_row ∷ drop 1 runs
   runs_ahead = drop-cons runs 0 no_row small.some
 
@@ -107,46 +100,34 @@ module _ (runs : List Row) (after : List ℕ) (small : Small runs after) (tail :
   after_ahead = drop-cons after 0 0 (omega (arith, small.rest, small.some))
 
   -- All columns of the runs.
-  pub columns_all : bit_or tail.head.columns (get_or runs 0 no_row).set ≡ union 0 runs
-  columns_all =
-      ap (λ (n : ℕ). bit_or n (get_or runs 0 no_row).set) columns_are
+  columns_behind : (tail : Option Tail) → TailBehind runs after tail → columns_of tail ≡ union 0 (drop 1 runs)
+  unfolding union
+  columns_behind None t = sym (ap (union 0) (nil_from_length (drop 1 runs) t.case))
+  columns_behind (Some tail) t = ap (λ (h : Head). h.columns) t.case.head
+
+  pub columns_all : (tail : Option Tail) (c : ℕ) → TailBehind runs after tail → c ≡ columns_of tail → bit_or c (get_or runs 0 no_row).set ≡ union 0 runs
+  columns_all tail c t e =
+      ap (λ (n : ℕ). bit_or n (get_or runs 0 no_row).set) (e ∙ columns_behind tail t)
       ∙ sym (ap (union 0) runs_ahead ∙ union_cons (get_or runs 0 no_row) (drop 1 runs))
 
-  pub from_fits : Fits w64 (tail.from + 1)
-  from_fits = record { fits = omega (arith, r.passed.within, length-drop 1 runs, small.few) }
+  module _ (tail : Tail) (r : TailIs (drop 1 runs) (drop 1 after) tail) where
+    columns_are : tail.head.columns ≡ union 0 (drop 1 runs)
+    columns_are = ap (λ (h : Head). h.columns) r.head
 
-  pub best_fits : Fits w64 (tail.best + 1)
-  best_fits = record { fits = omega (arith, r.near, length-drop 1 runs, small.few) }
+    pub passed_on : (w n : ℕ) → w ≡ (get_or runs 0 no_row).size → n ≡ (get_or runs 0 no_row).count → bit_or tail.head.columns (get_or runs 0 no_row).set ≡ tail.head.columns
+        → Passed runs after (Some (record { head = tail.head; from = tail.from + 1; best = tail.best + 1; cost = tail.cost + w + n * tail.head.count }))
+    passed_on w n e d same = record {
+      case =
+          subst₂ (λ (l : List Row) (t : List ℕ). Late l t (record { head = tail.head; from = tail.from + 1; best = tail.best + 1; cost = tail.cost + w + n * tail.head.count }))
+          (sym runs_ahead) (sym after_ahead)
+          (passed_more (get_or runs 0 no_row) (drop 1 runs) (get_or after 0 0) (drop 1 after)
+          (rw columns_are at same) tail (tail.cost + w + n * tail.head.count) r
+          (omega (arith, e, ap (λ (h : Head). n * h.count) r.head, ap (λ (k : ℕ). k * ones (union 0 (drop 1 runs))) d)));
+    }
 
-  module _ (w : ℕ) (e : w ≡ (get_or runs 0 no_row).size) where
-    pub size_fits : Fits w64 (tail.cost + w)
-    size_fits = record { fits = omega (arith, r.low, start_small runs after small w e) }
-
-    module _ (n : ℕ) (d : n ≡ (get_or runs 0 no_row).count) (b : tail.head.columns < 2 ^ 64) where
-      count_low : n * tail.head.count ≤ 65536
-      count_low =
-          omega (arith, mul-le-mul (start_few runs after small n d) (ones-le 64 tail.head.columns b), ap (λ (h : Head). n * h.count) r.head, ap (λ (k : ℕ). n * ones k) columns_are)
-
-      pub cells_fit : Fits w64 (n * tail.head.count)
-      cells_fit = record { fits = omega (arith, count_low) }
-
-      pub cost_fits : Fits w64 (tail.cost + w + n * tail.head.count)
-      cost_fits = record { fits = omega (arith, r.low, start_small runs after small w e, count_low) }
-
-    pub passed_on : (n : ℕ) → n ≡ (get_or runs 0 no_row).count → bit_or tail.head.columns (get_or runs 0 no_row).set ≡ tail.head.columns
-        → Passed runs after (record { head = tail.head; from = tail.from + 1; best = tail.best + 1; cost = tail.cost + w + n * tail.head.count })
-    passed_on n d same =
-        subst₂ (λ (l : List Row) (t : List ℕ). Passed l t (record { head = tail.head; from = tail.from + 1; best = tail.best + 1; cost = tail.cost + w + n * tail.head.count }))
-        (sym runs_ahead) (sym after_ahead)
-        (passed_more (get_or runs 0 no_row) (drop 1 runs) (get_or after 0 0) (drop 1 after)
-        (rw columns_are at same) tail (tail.cost + w + n * tail.head.count) r
-        (omega (arith, e, ap (λ (h : Head). n * h.count) r.head, ap (λ (k : ℕ). k * ones (union 0 (drop 1 runs))) d)))
-
-  -- None is passed on.
-  pub passed_none : Passed runs after (record { head = tail.head; from = length runs; best = 0; cost = 0 })
-  passed_none = record { within = omega arith; ends = λ h. absurd (omega arith) }
-
-pub ruleset pass_needs = (from_fits, best_fits, size_fits, cells_fit, cost_fits, passed_on, passed_none)
+-- A tail that is there.
+pub tail_known : (runs : List Row) (after : List ℕ) (tail : Option Tail) (t : Tail) → TailOf runs after tail → tail ≡ Some t → TailIs runs after t
+tail_known runs after tail t o e = (subst (TailOf runs after) e o).case
 
 -- ---- the best of all ends
 
@@ -163,54 +144,50 @@ module _ (runs : List Row) (after : List ℕ) (low : (k : ℕ) → get_or after 
         → TailIs runs after (tail_with far best cost)
     tail_with_lem best cost l e h = record {
       head = far_head;
-      passed = record {
-        within = omega (arith, f.looked.inside, f.looked.least.from, f.looked.least.to);
-        ends = λ i. record { full = far_full; least = l; is = e };
-      };
-      near = omega (arith, l.to);
+      late = record { within = omega (arith, f.looked.inside, f.looked.least.from, f.looked.least.to); ends = record { full = far_full; least = l; is = e } };
       low = omega (arith, f.looked.low, low far.from);
     }
 
   -- With those passed on.
-  tail_made : (far : Look) (passed : Tail) → LookedFar runs after near passed.from far → Passed runs after passed
-      → TailIs runs after (tail_of far passed (length runs)) × ((tail_of far passed (length runs)).from ≡ near.end)
-  tail_made far passed f p = go (ltb passed.from (length runs)) refl (leb passed.cost far.cost) refl
+  tail_made : (far : Look) (passed : Option Tail) → LookedFar runs after near (passed_from runs passed) far → Passed runs after passed
+      → TailIs runs after (tail_of far passed) × ((tail_of far passed).from ≡ near.end)
+  tail_made far None f p =
+      let e : far.end ≡ length runs - 1 = omega (arith, f.reached, f.looked.inside) in (
+        tail_with_lem far (length runs) f far.best far.cost (subst (λ (k : ℕ). LeastIn (end_cost runs after) far.from k far.best) e f.looked.least)
+            f.looked.cost (omega arith),
+        f.start,
+      )
+  tail_made far (Some passed) f p = go (leb passed.cost far.cost) refl
     where
-      -- The ends passed on begin no sooner than those looked at far, and no later than after them.
-      later : Ends runs after passed.from passed.best passed.cost → far.from ≤ passed.from
-      later r = omega (arith, f.start, n.first passed.from r.full)
+      ends : Ends runs after passed.from passed.best passed.cost
+      ends = p.case.ends
 
-      go : (a : Bool) → ltb passed.from (length runs) ≡ a → (b : Bool) → leb passed.cost far.cost ≡ b
-          → TailIs runs after (tail_if a b far passed) × ((tail_if a b far passed).from ≡ near.end)
-      go true h true g =
-          let r = p.ends (ltb-true passed.from (length runs) h) in (
-            tail_with_lem far passed.from f passed.best passed.cost
-                (least_far (end_cost runs after) far.from far.end far.best f.looked.least passed.from (length runs - 1) passed.best r.least
-                (later r) (omega (arith, f.reached)) (omega (arith, f.looked.inside)) (omega (arith, r.is, f.looked.cost, leb-true passed.cost far.cost g)))
-                r.is (leb-true passed.cost far.cost g),
-            f.start,
-          )
-      go true h false g =
-          let r = p.ends (ltb-true passed.from (length runs) h) in (
-            tail_with_lem far passed.from f far.best far.cost
-                (least_near (end_cost runs after) far.from far.end far.best f.looked.least passed.from (length runs - 1) passed.best r.least
-                (later r) (omega (arith, f.reached)) (omega (arith, f.looked.inside)) (omega (arith, r.is, f.looked.cost, leb-false passed.cost far.cost g)))
-                f.looked.cost (omega arith),
-            f.start,
-          )
-      go false h b g =
-          let e : far.end ≡ length runs - 1 = omega (arith, f.reached, f.looked.inside, ltb-false passed.from (length runs) h) in (
-            tail_with_lem far passed.from f far.best far.cost (subst (λ (k : ℕ). LeastIn (end_cost runs after) far.from k far.best) e f.looked.least)
-                f.looked.cost (omega arith),
-            f.start,
-          )
+      -- The ends passed on begin no sooner than those looked at far, and no later than after them.
+      later : far.from ≤ passed.from
+      later = omega (arith, f.start, n.first passed.from ends.full)
+
+      go : (b : Bool) → leb passed.cost far.cost ≡ b → TailIs runs after (tail_if b far passed) × ((tail_if b far passed).from ≡ near.end)
+      go true g = (
+        tail_with_lem far passed.from f passed.best passed.cost
+            (least_far (end_cost runs after) far.from far.end far.best f.looked.least passed.from (length runs - 1) passed.best ends.least
+            later (omega (arith, f.reached)) (omega (arith, f.looked.inside)) (omega (arith, ends.is, f.looked.cost, leb-true passed.cost far.cost g)))
+            ends.is (leb-true passed.cost far.cost g),
+        f.start,
+      )
+      go false g = (
+        tail_with_lem far passed.from f far.best far.cost
+            (least_near (end_cost runs after) far.from far.end far.best f.looked.least passed.from (length runs - 1) passed.best ends.least
+            later (omega (arith, f.reached)) (omega (arith, f.looked.inside)) (omega (arith, ends.is, f.looked.cost, leb-false passed.cost far.cost g)))
+            f.looked.cost (omega arith),
+        f.start,
+      )
 
   -- With those looked at near.
   found_with : (tail : Tail) → TailIs runs after tail → tail.from ≡ near.end → FoundIs runs after (found_of near tail)
   found_with tail t e = go (leb tail.cost near.cost) refl
     where
       ends : Ends runs after tail.from tail.best tail.cost
-      ends = t.passed.ends (omega (arith, n.looked.inside))
+      ends = t.late.ends
 
       least : LeastIn (end_cost runs after) 0 near.end near.best
       least = subst (λ (k : ℕ). LeastIn (end_cost runs after) k near.end near.best) n.start n.looked.least
@@ -241,33 +218,12 @@ module _ (runs : List Row) (after : List ℕ) (low : (k : ℕ) → get_or after 
         tail = t;
       }
 
-  pub found_made : (far : Look) (passed : Tail) → LookedFar runs after near passed.from far → Passed runs after passed
-      → FoundIs runs after (found_of near (tail_of far passed (length runs)))
-  found_made far passed f p = let t = tail_made far passed f p in found_with (tail_of far passed (length runs)) t.0 t.1
+  pub found_made : (far : Look) (passed : Option Tail) → LookedFar runs after near (passed_from runs passed) far → Passed runs after passed
+      → FoundIs runs after (found_of near (tail_of far passed))
+  found_made far passed f p = let t = tail_made far passed f p in found_with (tail_of far passed) t.0 t.1
 
 -- As the code has it.
-pub found_all : (runs : List Row) (after : List ℕ) → Small runs after → (near far : Look) (passed tail : Tail) (found : Found) → LookedNear runs after near
-    → LookedFar runs after near passed.from far → Passed runs after passed
-    → tail ≡ tail_of far passed (length runs) → found ≡ found_of near tail → FoundIs runs after found
-found_all runs after small near far passed tail found n f p e d = rw (d, e) (found_made runs after small.low near n far passed f p)
-
--- What the code makes is what is defined.
-module _ (far : Look) (passed : Tail) (runs : ℕ) where
-  pub tail_passed : passed.from < runs → passed.cost ≤ far.cost → tail_with far passed.best passed.cost ≡ tail_of far passed runs
-  tail_passed h g = rw (lt-ltb passed.from runs h, le-leb passed.cost far.cost g)
-
-  pub tail_looked : passed.from < runs → far.cost < passed.cost → tail_with far far.best far.cost ≡ tail_of far passed runs
-  tail_looked h g = rw (lt-ltb passed.from runs h, lt-leb passed.cost far.cost g)
-
-  pub tail_alone : runs ≤ passed.from → tail_with far far.best far.cost ≡ tail_of far passed runs
-  tail_alone h = rw (le-ltb passed.from runs h)
-
-pub ruleset tail_needs = (tail_passed, tail_looked, tail_alone)
-
-pub found_tail : (near : Look) (tail : Tail) → tail.cost ≤ near.cost → found_if true near tail ≡ found_of near tail
-found_tail near tail h = rw (le-leb tail.cost near.cost h)
-
-pub found_near : (near : Look) (tail : Tail) → near.cost < tail.cost → found_if false near tail ≡ found_of near tail
-found_near near tail h = rw (lt-leb tail.cost near.cost h)
-
-pub ruleset found_needs = (found_tail, found_near)
+pub found_all : (runs : List Row) (after : List ℕ) → Small runs after → (near far : Look) (passed : Option Tail) (to : ℕ) (tail : Tail) (found : Found) → LookedNear runs after near
+    → to ≡ passed_from runs passed → LookedFar runs after near to far → Passed runs after passed
+    → tail ≡ tail_of far passed → found ≡ found_of near tail → FoundIs runs after found
+found_all runs after small near far passed to tail found n t f p e d = rw (d, e) (found_made runs after small.low near n far passed (rw t at f) p)

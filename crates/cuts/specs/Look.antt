@@ -1,6 +1,6 @@
 -- A reviewer can skip this file: what private functions know while they look for the best first block, and while they fill in the costs.
 -- An end of the first block is told by the number of runs after the block's first.
-use Rattle.std.specs.Prelude.{◌≡◌, Bool, true, false, List, ℕ, suc, ◌+◌, ◌-◌, ◌*◌, ◌^◌, ◌≤◌, ◌<◌, leb, ltb, length, take, drop, get_or}
+use Rattle.std.specs.Prelude.{◌≡◌, Bool, true, false, List, ℕ, suc, ◌+◌, ◌-◌, ◌*◌, ◌^◌, ◌≤◌, ◌<◌, Option, Some, None, leb, length, take, drop, get_or}
 use Rattle.std.specs.Int.Count.{ones}
 use Rattle.element.specs.Set.{name_bytes}
 use Rattle.cuts.specs.Block.{most_rows, most_bytes, Row, union, value_bytes, row_count, block_bytes}
@@ -75,30 +75,59 @@ pub record Ends (runs : List Row) (after : List ℕ) (from best cost : ℕ) : Ty
   pub least : LeastIn (end_cost runs after) from (length runs - 1) best
   pub is : cost ≡ end_cost runs after best
 
--- The tail has ends of the runs, or none.
-pub record Passed (runs : List Row) (after : List ℕ) (tail : Tail) : Type 0 where
-  pub within : tail.from ≤ length runs
-  pub ends : tail.from < length runs → Ends runs after tail.from tail.best tail.cost
+-- There are ends of the runs from one on, and the tail is these.
+pub record Late (runs : List Row) (after : List ℕ) (tail : Tail) : Type 0 where
+  pub within : tail.from < length runs
+  pub ends : Ends runs after tail.from tail.best tail.cost
+
+-- What is passed on has ends of the runs, if there is any.
+abbrev pub PassedCase : List Row → List ℕ → Option Tail → Type 0
+PassedCase runs after None = Unit
+PassedCase runs after (Some tail) = Late runs after tail
+
+pub record Passed (runs : List Row) (after : List ℕ) (passed : Option Tail) : Type 0 where
+  pub case : PassedCase runs after passed
+
+-- Where what is passed on begins, or the end of the runs.
+abbrev pub passed_from : List Row → Option Tail → ℕ
+passed_from runs None = length runs
+passed_from runs (Some tail) = tail.from
 
 -- The tail of the runs.
 pub record TailIs (runs : List Row) (after : List ℕ) (tail : Tail) : Type 0 where
   pub head : tail.head ≡ head_of (union 0 runs)
-  pub passed : Passed runs after tail
-  pub near : tail.best ≤ length runs
+  pub late : Late runs after tail
   pub low : tail.cost < 2 ^ 41
+
+-- The tail of the runs, and none where there are no runs.
+abbrev pub TailCase : List Row → List ℕ → Option Tail → Type 0
+TailCase runs after None = length runs ≡ 0
+TailCase runs after (Some tail) = TailIs runs after tail
+
+pub record TailOf (runs : List Row) (after : List ℕ) (tail : Option Tail) : Type 0 where
+  pub case : TailCase runs after tail
+
+-- The tail of the runs without the first.
+abbrev pub TailBehind : List Row → List ℕ → Option Tail → Type 0
+TailBehind runs after tail = TailOf (drop 1 runs) (drop 1 after) tail
+
+-- All columns of a tail.
+abbrev pub columns_of : Option Tail → ℕ
+columns_of None = 0
+columns_of (Some tail) = tail.head.columns
 
 -- The ends looked at far as a tail, with this one as the best.
 abbrev pub tail_with : Look → ℕ → ℕ → Tail
 tail_with far best cost = record { head = far.head; from = far.from; best = best; cost = cost }
 
--- The tail of the ends looked at far and those passed on: whether there are any of these, and whether the best of them costs no more.
-abbrev pub tail_if : Bool → Bool → Look → Tail → Tail
-tail_if true true far passed = tail_with far passed.best passed.cost
-tail_if true false far passed = tail_with far far.best far.cost
-tail_if false b far passed = tail_with far far.best far.cost
+-- The tail of the ends looked at far and those passed on, if any: whether the best of them costs no more.
+abbrev pub tail_if : Bool → Look → Tail → Tail
+tail_if true far passed = tail_with far passed.best passed.cost
+tail_if false far passed = tail_with far far.best far.cost
 
-abbrev pub tail_of : Look → Tail → ℕ → Tail
-tail_of far passed runs = tail_if (ltb passed.from runs) (leb passed.cost far.cost) far passed
+abbrev pub tail_of : Look → Option Tail → Tail
+tail_of far None = tail_with far far.best far.cost
+tail_of far (Some passed) = tail_if (leb passed.cost far.cost) far passed
 
 -- The best of the ends looked at near and of the tail: whether that of the tail costs no more.
 abbrev pub found_if : Bool → Look → Tail → Found

@@ -9,9 +9,11 @@ use native.Mathlib.Omega.{arith}
 use lib.Dec.{eqb, ltb}
 use lib.ListN.{length, take, drop, get_or, drop_of_length-le, length-drop}
 use lib.Seq.{drop-cons, drop-drop, get_or-drop}
-use borrow.Author.Tests.{eq-eqb, ne_eqb, ltb-true, ltb-false}
+use borrow.Author.Tests.{eq-eqb, ne_eqb, lt-ltb, ltb-true}
+use Rattle.std.specs.Prelude.{Option, Some, None, unwrap_or}
 use Rattle.text.specs.Lines.{is_printable, up_to, fields, into, trim, field_from, FieldAt}
-use Rattle.text.proofs.Bools.{bools}
+use Rattle.text.specs.Numbered.{numbered}
+use Rattle.text.proofs.Bools.{bools, never}
 use Rattle.text.proofs.LineLaws.{fields_more, fields_first}
 use Rattle.element.specs.Table.{elements, element_number}
 use Rattle.inspect.specs.Part.{after_mark, part_start, marks_in}
@@ -127,10 +129,28 @@ field_size {line} {position} f =
     f.place.size_is ∙ ap (λ (x : List ℕ). length (trim x)) (field_from_lem line (field_index line position) (omega (arith, fields_count line)))
 
 -- The element that is named there.
-pub element_is : (columns : List ℕ) {position start size till : ℕ} → FieldIs columns position start size till → (rest name : List ℕ) (number : ℕ)
-    → rest ≡ drop start columns → name ≡ take size rest → number ≡ element_number name → number ≡ element_at columns position
+pub element_is : (columns : List ℕ) {position start size till : ℕ} → FieldIs columns position start size till → (rest name : List ℕ)
+    → rest ≡ drop start columns → name ≡ take size rest → element_number name ≡ element_at columns position
 unfolding element_at
-element_is columns f rest name number r n e = e ∙ ap element_number (n ∙ rw r f.value)
+element_is columns f rest name r n = ap element_number (n ∙ rw r f.value)
+
+-- Numbers counted from 1.
+
+pub numbered_some : (n m : ℕ) → 0 < n → n ≡ m → Some n ≡ numbered m
+numbered_some zero m h e = absurd (omega arith)
+numbered_some (suc n) m h e = ap numbered e
+
+pub number_back : (n : ℕ) → unwrap_or (numbered n) 0 ≡ n
+number_back zero = refl
+number_back (suc n) = refl
+
+number_is : (n m : ℕ) → Some n ≡ numbered m → (n ≡ m) × (0 < n)
+number_is n zero e = cc
+number_is n (suc m) e = let same : n ≡ suc m = cc in (same, omega arith)
+
+number_none : (m : ℕ) → None ≡ numbered m → m ≡ 0
+number_none zero e = refl
+number_none (suc m) e = cc
 
 -- Columns.
 
@@ -161,15 +181,21 @@ module _ (columns : List ℕ) (element k : ℕ) (inv : column_of columns element
 
 -- Elements that are present.
 
-pub present_is : (line columns : List ℕ) (element column : ℕ) {start size till : ℕ} → column ≡ column_of columns element → FieldIs line column start size till
-    → ltb 0 element && ltb 0 column && ltb 0 size ≡ is_present line columns element
+pub present_some : (line columns : List ℕ) (element column : ℕ) {start size till : ℕ} → Some column ≡ numbered (column_of columns element)
+    → FieldIs line column start size till → (ltb 0 element && ltb 0 size) ≡ is_present line columns element
 unfolding is_present
-present_is line columns element column e f = rw (field_size f, e)
+present_some line columns element column e f =
+    let is = number_is column (column_of columns element) e in
+    rw (← is.0, lt-ltb 0 column is.1, field_size f) (bools (ltb 0 element) (λ t. rw t) (λ t. rw t))
 
--- The last element number that is looked at.
-pub last_is : (last end : ℕ) → end ≡ cond (ltb last elements) last elements → end ≡ min last elements
-last_is last end e =
-    bools (ltb last elements) (λ t. omega (arith, rw t at e, ltb-true last elements t)) (λ t. omega (arith, rw t at e, ltb-false last elements t))
+pub present_none : (line columns : List ℕ) (element : ℕ) → None ≡ numbered (column_of columns element) → false ≡ is_present line columns element
+unfolding is_present
+present_none line columns element e = rw (number_none (column_of columns element) e) (bools (ltb 0 element) (λ t. rw t) (λ t. rw t))
+
+-- An element that is present has a number.
+pub present_above : (line columns : List ℕ) (element : ℕ) → is_present line columns element ≡ true → 0 < element
+unfolding is_present
+present_above line columns element e = bools (ltb 0 element) (λ t. ltb-true 0 element t) (λ t. never (rw t at e))
 
 pub present_start : (line columns : List ℕ) (first last end : ℕ) → end ≡ min last elements
     → first_present line columns first last ≡ present_from (end + 1 - first) first line columns

@@ -1,11 +1,15 @@
 -- Laws of the parts of a text between marks: one for each step and each end of a loop, and those that the crates above cite.
-use Prim.Native.Nat.{ℕ, zero, suc, ◌+◌, ◌-◌, ◌≤◌, ◌<◌}
+use Prim.Native.Nat.{ℕ, zero, suc, ◌+◌, ◌-◌, ◌≤◌, ◌<◌, min}
 use mathlib.Core.Path.{◌≡◌, refl, ap, ◌∙◌}
 use mathlib.Core.Bool.{cond}
-use mathlib.Core.List.{List}
+use mathlib.Core.List.{List, [], ◌∷◌}
+use Rattle.std.specs.Prelude.{count_by}
+use Rattle.std.proofs.lemmas.List.Sums.{sum_by-cons}
 use native.Mathlib.Numerals.{add-one}
 use native.Mathlib.Omega.{arith}
-use lib.Dec.{eqb}
+use lib.Dec.{eqb, leb}
+use borrow.Author.Tests.{leb-true, leb-false}
+use Rattle.text.proofs.Bools.{bools}
 use lib.ListN.{length, take, drop, get_or, drop_of_length-le}
 use lib.Seq.{drop-cons}
 use Rattle.text.specs.Lines.{up_to}
@@ -18,25 +22,20 @@ pub part_is : (text rest part : List ℕ) (at till mark : ℕ) → rest ≡ drop
 unfolding part_from
 part_is text rest part at till mark r u p = p ∙ rw (u, r)
 
+-- The next mark is looked for from a place on, or from the end of the text.
+pub after_is : (text : List ℕ) (at mark from till : ℕ) → from ≡ min at (length text) → till ≡ up_to mark (take (length text - from) (drop from text))
+    → min (from + till + 1) (length text) ≡ after_mark text at mark
+unfolding after_mark
+after_is text at mark from till f t =
+    bools (leb at (length text))
+    (λ e.
+    let inside = leb-true at (length text) e in
+    let same : from ≡ at = omega arith in
+    let found : till ≡ up_to mark (drop at text) = t ∙ rw (same, rest_of text at inside) in
+    omega arith)
+    (λ e. omega (arith, leb-false at (length text) e))
+
 module _ (text : List ℕ) (at mark : ℕ) where
-  -- Past the end of the text there is no mark.
-  pub after_end : length text ≤ at → length text ≡ after_mark text at mark
-  unfolding after_mark
-  after_end h = omega arith
-
-  module _ (h : at < length text) (till : ℕ) (e : till ≡ at + up_to mark (take (length text - at) (drop at text))) where
-    till_is : till ≡ at + up_to mark (drop at text)
-    till_is = e ∙ rw (rest_of text at (omega arith))
-
-    -- A mark that is found, and one that is not.
-    pub after_found : till < length text → till + 1 ≡ after_mark text at mark
-    unfolding after_mark
-    after_found l = omega (arith, till_is)
-
-    pub after_none : length text ≤ till → length text ≡ after_mark text at mark
-    unfolding after_mark
-    after_none l = omega (arith, till_is)
-
   -- The place after a mark is in the text or its end, and further on than the place before.
   pub after_within : after_mark text at mark ≤ length text
   unfolding after_mark
@@ -69,13 +68,8 @@ unfolding part_start
 start_within text zero mark = omega arith
 start_within text (suc k) mark = after_within text (part_start text k mark) mark
 
--- One byte more, and the end.
-module _ (mark : ℕ) (text : List ℕ) (n i : ℕ) (inv : marks_in mark text ≡ n + marks_in mark (drop i text)) where
-  pub marks_on : i < length text → (d : ℕ) → d ≡ cond (eqb (get_or text i 0) mark) 1 0 → marks_in mark text ≡ n + d + marks_in mark (drop (i + 1) text)
-  unfolding marks_in
-  marks_on h d e =
-      let q : marks_in mark (drop i text) ≡ d + marks_in mark (drop (i + 1) text) = rw (add-one, drop-cons text i 0, e) in omega arith
-
-  pub marks_end : length text ≤ i → n ≡ marks_in mark text
-  unfolding marks_in
-  marks_end h = let q : marks_in mark (drop i text) ≡ 0 = rw drop_of_length-le in omega arith
+-- The marks of a text are counted byte by byte.
+pub marks_counted : (mark : ℕ) (text : List ℕ) → count_by (λ byte. eqb byte mark) text ≡ marks_in mark text
+unfolding marks_in
+marks_counted mark [] = refl
+marks_counted mark (byte ∷ text) = sum_by-cons (λ byte. cond (eqb byte mark) 1 0) byte text ∙ ap (λ n. cond (eqb byte mark) 1 0 + n) (marks_counted mark text)

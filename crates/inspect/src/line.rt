@@ -1,5 +1,6 @@
 // A line of a text: its bytes, its fields, and the columns that hold for it.
-ghost use Rattle.std.specs.Prelude.{◌≡◌, cond, ◌-◌, min};
+ghost use Rattle.std.specs.Prelude.{◌≡◌};
+ghost use Rattle.text.specs.Numbered.{numbered};
 ghost use Rattle.inspect.specs.Line.{printable_front, FieldIs, element_at, column_of, is_present, first_present, columns_before};
 
 use crate::part;
@@ -11,81 +12,63 @@ use text::part::{at, front, tail};
 pub fn first_wrong(line: &[u8]) -> usize
     ensures { result ≡ printable_front line.now }
 {
-    let mut i: usize = 0;
-    while i < line.len() {
-        if is_printable(line[i]) {
-            i += 1;
-        } else {
+    for (i, byte) in line.iter().enumerate() {
+        if !is_printable(*byte) {
             return i;
         }
     }
-    i
+    line.len()
 }
 
 // The field of a line at a position, counted from 1; past the last one the last.
 pub fn field(line: &[u8], position: usize) -> Field
-    ensures { FieldIs line.now position result.start result.length result.till }
+    ensures { FieldIs line.now position result.value.start result.value.length result.till }
 {
-    let index = index_of(position, part::count(line, b'|'));
+    let index = position.saturating_sub(1).min(part::count(line, b'|'));
     field_at(line, part::start(line, index, b'|'))
 }
 
-// The index of a position, counted from 1; at most the last.
-fn index_of(position: usize, last: usize) -> usize
-    ensures { result ≡ min (position - 1) last }
+// The number of the element that a column line names at a position.
+pub fn element_at(columns: &[u8], position: usize) -> Option<usize>
+    ensures { result ≡ numbered (element_at columns.now position) }
 {
-    if position == 0 {
-        return 0;
-    }
-    if position <= last { position - 1 } else { last }
-}
-
-// The number of the element that a column line names at a position; 0 where it names none.
-pub fn element_at(columns: &[u8], position: usize) -> usize
-    ensures { result ≡ element_at columns.now position }
-{
-    let name = field(columns, position);
+    let name = field(columns, position).value;
     element::name::number(front(tail(columns, name.start), name.length))
 }
 
-// The position of an element in a column line, counted from 1; 0 where it is not there.
-pub fn column_of(columns: &[u8], element: usize) -> usize
-    ensures { result ≡ column_of columns.now element }
+// The position of an element in a column line, counted from 1; that of element 0 is the first at which no element is named.
+pub fn column_of(columns: &[u8], element: usize) -> Option<usize>
+    ensures { result ≡ numbered (column_of columns.now element) }
 {
-    let bars = part::count(columns, b'|');
-    let mut k: usize = 0;
-    while k <= bars {
-        k += 1;
-        if element_at(columns, k) == element {
-            return k;
+    for index in 0..=part::count(columns, b'|') {
+        if element_at(columns, index + 1).unwrap_or(0) == element {
+            return Some(index + 1);
         }
     }
-    0
+    None
 }
 
 // The lowest element number from `first` to `last`, counted from 1, whose column stands in the column line and whose field in the data line
-// is not empty; 0 where there is none.
-pub fn first_present(line: &[u8], columns: &[u8], first: usize, last: usize) -> usize
-    ensures { result ≡ first_present line.now columns.now first last }
+// is not empty.
+pub fn first_present(line: &[u8], columns: &[u8], first: usize, last: usize) -> Option<usize>
+    ensures { result ≡ numbered (first_present line.now columns.now first last) }
 {
-    let end = either(last < ELEMENTS, last, ELEMENTS);
-    let mut element: usize = first;
-    while element <= end {
+    for element in first..=last.min(ELEMENTS) {
         if is_present(line, columns, element) {
-            return element;
+            return Some(element);
         }
-        element += 1;
     }
-    0
+    None
 }
 
 // Whether the column of an element stands in the column line and its field in the data line is not empty.
 fn is_present(line: &[u8], columns: &[u8], element: usize) -> bool
     ensures { result ≡ is_present line.now columns.now element }
 {
-    let column = column_of(columns, element);
-    let value = field(line, column);
-    (0 < element) & (0 < column) & (0 < value.length)
+    match column_of(columns, element) {
+        Some(column) => (0 < element) & (0 < field(line, column).value.length),
+        None => false,
+    }
 }
 
 // Where the column line starts that holds for the line of a number, counted from 0: after the last line before it that begins with `#`;
@@ -95,19 +78,12 @@ pub fn columns_before(text: &[u8], number: usize) -> usize
 {
     let mut columns: usize = 0;
     let mut from: usize = 0;
-    let mut k: usize = 0;
-    while k < number {
+    for _ in 0..number {
         let next = part::after(text, from, b'\n');
-        columns = either(at(text, from) == b'#', next, columns);
+        if at(text, from) == b'#' {
+            columns = next;
+        }
         from = next;
-        k += 1;
     }
     columns
-}
-
-// The first of two numbers where the test is true, otherwise the second.
-fn either(test: bool, first: usize, second: usize) -> usize
-    ensures { result ≡ cond test first second }
-{
-    if test { first } else { second }
 }

@@ -7,9 +7,8 @@ use text::lines::{leading_blanks, trimmed};
 use text::part::{at, front, same, starts_in, tail};
 
 // What is odd about a line.
-#[derive(Clone, Copy)]
+#[derive(Clone, Copy, PartialEq, Eq)]
 pub enum Oddity {
-    Nothing,
     ByteOrderMark,
     Tab,
     CarriageReturn,
@@ -21,11 +20,11 @@ pub enum Oddity {
 
 // What is odd about a line, given without its LF: a byte order mark before it; its first byte outside 0x20 to 0x7E, where that is a tab or
 // a carriage return; or else what it says.
-pub fn first_oddity(line: &[u8]) -> Oddity
+pub fn first_oddity(line: &[u8]) -> Option<Oddity>
     ensures { result ≡ oddity_of line.now }
 {
     if starts_in(b"\xEF\xBB\xBF", line) {
-        return Oddity::ByteOrderMark;
+        return Some(Oddity::ByteOrderMark);
     }
     let wrong = first_wrong(line);
     if wrong < line.len() {
@@ -35,48 +34,47 @@ pub fn first_oddity(line: &[u8]) -> Oddity
 }
 
 // What is odd about a byte outside 0x20 to 0x7E.
-fn odd_byte(byte: u8) -> Oddity
+#[tactic(auto, unfolding(crate::specs::Oddity::odd_byte))]
+fn odd_byte(byte: u8) -> Option<Oddity>
     ensures { result ≡ odd_byte byte }
 {
-    if byte == b'\t' {
-        return Oddity::Tab;
+    match byte {
+        b'\t' => Some(Oddity::Tab),
+        b'\r' => Some(Oddity::CarriageReturn),
+        _ => None,
     }
-    if byte == b'\r' {
-        return Oddity::CarriageReturn;
-    }
-    Oddity::Nothing
 }
 
 // What is odd about a line whose bytes are 0x20 to 0x7E: that it is blank, a version line but for its end, or another header line.
-fn odd_printable(line: &[u8]) -> Oddity
+fn odd_printable(line: &[u8]) -> Option<Oddity>
     ensures { result ≡ odd_printable line.now }
 {
     if leading_blanks(line) == line.len() {
-        return Oddity::BlankLine;
+        return Some(Oddity::BlankLine);
     }
     if starts_in(b"# version", line) {
         return odd_version(line);
     }
     let first = at(line, 0);
     if (first == b'#') | (first == b'!') {
-        return Oddity::HeaderLine;
+        return Some(Oddity::HeaderLine);
     }
-    Oddity::Nothing
+    None
 }
 
 // What is odd about a line that begins with `# version`.
-fn odd_version(line: &[u8]) -> Oddity
+fn odd_version(line: &[u8]) -> Option<Oddity>
     ensures { result ≡ odd_version line.now }
 {
     if same(line, b"# version=2022") {
-        return Oddity::Nothing;
+        return None;
     }
     let words = trimmed(line);
     if same(
         front(tail(line, words.start), words.length),
         b"# version=2022",
     ) {
-        return Oddity::BlankAfterVersion;
+        return Some(Oddity::BlankAfterVersion);
     }
-    Oddity::OtherEdition
+    Some(Oddity::OtherEdition)
 }

@@ -1,5 +1,5 @@
 // The parts of a text that stand between marks, as lines between LFs.
-ghost use Rattle.std.specs.Prelude.{◌≡◌, cond, ◌≤◌, length};
+ghost use Rattle.std.specs.Prelude.{◌≡◌, ◌≤◌, length};
 ghost use Rattle.inspect.specs.Part.{part_from, after_mark, part_start, part_of, marks_in};
 
 use text::lines::up_to;
@@ -17,15 +17,9 @@ pub fn part(text: &[u8], at: usize, mark: u8) -> &[u8]
 pub fn after(text: &[u8], at: usize, mark: u8) -> usize
     ensures { result ≡ after_mark text.now at mark }
 {
-    if text.len() <= at {
-        return text.len();
-    }
+    let at = at.min(text.len());
     let till = at + up_to(&text[at..], mark);
-    if till < text.len() {
-        till + 1
-    } else {
-        text.len()
-    }
+    (till + 1).min(text.len())
 }
 
 // The place where the part of a number starts, counted from 0; past the last one the end of the text.
@@ -33,10 +27,8 @@ pub fn start(text: &[u8], number: usize, mark: u8) -> usize
     ensures { result ≡ part_start text.now number mark }
 {
     let mut at: usize = 0;
-    let mut k: usize = 0;
-    while k < number {
+    for _ in 0..number {
         at = after(text, at, mark);
-        k += 1;
     }
     at
 }
@@ -52,18 +44,5 @@ pub fn numbered(text: &[u8], number: usize, mark: u8) -> &[u8]
 pub fn count(text: &[u8], mark: u8) -> usize
     ensures { (result ≡ marks_in mark text.now) × (result ≤ length text.now) }
 {
-    let mut n: usize = 0;
-    let mut i: usize = 0;
-    while i < text.len() {
-        n += one_if(text[i] == mark);
-        i += 1;
-    }
-    n
-}
-
-// One for what is so, none for what is not.
-fn one_if(test: bool) -> usize
-    ensures { (result ≡ cond test 1 0) × (result ≤ 1) }
-{
-    if test { 1 } else { 0 }
+    text.iter().filter(|byte| **byte == mark).count()
 }

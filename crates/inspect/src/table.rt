@@ -1,6 +1,6 @@
 // A table written as a text: rows between LFs, in a row entries between bars.
 ghost use Rattle.std.specs.Prelude.{◌≡◌};
-ghost use Rattle.inspect.specs.Tables.{entry_of, row_of};
+ghost use Rattle.inspect.specs.Tables.{entry_of, found_row};
 
 use crate::part;
 use text::part::same;
@@ -12,17 +12,14 @@ pub fn entry(table: &[u8], row: usize, column: usize) -> &[u8]
     part::numbered(part::numbered(table, row, b'\n'), column, b'|')
 }
 
-// The row of a name, counted from 0: the first whose first entry it is; the number of rows where there is none.
-pub fn row(table: &[u8], name: &[u8]) -> usize
-    ensures { result ≡ row_of table.now name.now }
+// The row of a name, counted from 0: the first whose first entry it is.
+pub fn row(table: &[u8], name: &[u8]) -> Option<usize>
+    ensures { result ≡ found_row table.now name.now }
 {
-    let rows = part::count(table, b'\n');
-    let mut k: usize = 0;
-    while k < rows {
-        if same(entry(table, k, 0), name) {
-            return k;
+    for row in 0..part::count(table, b'\n') {
+        if same(entry(table, row, 0), name) {
+            return Some(row);
         }
-        k += 1;
     }
-    k
+    None
 }

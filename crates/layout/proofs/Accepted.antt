@@ -13,12 +13,11 @@ use Rattle.text.specs.Part.{same}
 use Rattle.text.specs.Lines.{Lines, end, cut, line, lines, fields, trim, printable}
 use Rattle.text.proofs.Bools.{bools}
 use Rattle.refusal.specs.declared.Fault.{Fault}
-use Rattle.refusal.specs.declared.Fault.TheVariants.{Sound, At}
+use Rattle.refusal.specs.declared.Kind.{Kind}
+use Rattle.std.specs.Prelude.{Result, Ok, Err}
 use Rattle.element.specs.Table.{elements, index_of}
 use Rattle.element.specs.Form.{fault_of}
 use Rattle.element.specs.Observation.{Observation, is_present, observation_fault}
-use Rattle.element.specs.declared.form.Check.{Check}
-use Rattle.element.specs.declared.form.Check.TheVariants.{Fine, Bad}
 use Rattle.report.specs.declared.state.Need.{Need}
 use Rattle.report.specs.Report.{row_limit, version_line, is_hash, State, Step, next, row, bad, member, columns_from, or_next, field_fault, fill, row_of, row_unless, data_line, opened, other, step, accepted, after_row, after, read_from, begin, read}
 use Rattle.report.proofs.Long.{row_long}
@@ -28,14 +27,14 @@ use Rattle.layout.proofs.FieldLaws.{is_clean, Cleans, none, one, trim_twice, cle
 
 -- A value as it stands in an accepted observation.
 pub record RightValue (c : ℕ) (v : List ℕ) : Type 0 where
-  pub fine : fault_of c v ≡ Fine
+  pub fine : fault_of c v ≡ Ok tt
   pub trimmed : trim v ≡ v
   pub clean : is_clean v ≡ true
 
 -- An observation as it is accepted.
 pub record Right (o : Observation) : Type 0 where
   pub long : length o ≡ elements
-  pub sound : observation_fault o ≡ Sound
+  pub sound : observation_fault o ≡ Ok tt
   pub values : (c : ℕ) → RightValue c (get_or o c [])
 
 -- Each of the observations is right.
@@ -69,9 +68,9 @@ blank_at (suc n) zero = refl
 blank_at (suc n) (suc e) = blank_at n e
 
 -- Without a fault, the field has none and neither have those after it.
-next_fault : (c : Check) (p : ℕ) (f : Fault) → or_next c p f ≡ Sound → (c ≡ Fine) × (f ≡ Sound)
-next_fault Fine p f h = (refl, h)
-next_fault (Bad k) p f h = let z : ◌≡◌ {A = ℕ} 0 1 = cc in absurd (omega arith)
+next_fault : (c : Result Unit Kind) (p : ℕ) (f : Result Unit Fault) → or_next c p f ≡ Ok tt → (c ≡ Ok tt) × (f ≡ Ok tt)
+next_fault (Ok u) p f h = (refl, h)
+next_fault (Err k) p f h = let z : ◌≡◌ {A = ℕ} 0 1 = cc in absurd (omega arith)
 
 -- A value put where it is present.
 abbrev pub put : Observation → ℕ → List ℕ → Observation
@@ -100,7 +99,7 @@ put_right : (o : Observation) (c : ℕ) (v : List ℕ) → RightValue c v → ((
 put_right o c v r h e = bools (is_present v) (λ q. rw q (set_right o c v r h e)) (λ q. rw q (h e))
 
 -- Fields without a fault fill a row of right values.
-fill_right : (cs : List ℕ) (fs : List (List ℕ)) (p : ℕ) (o : Observation) → field_fault p cs fs ≡ Sound → Cleans fs
+fill_right : (cs : List ℕ) (fs : List (List ℕ)) (p : ℕ) (o : Observation) → field_fault p cs fs ≡ Ok tt → Cleans fs
     → ((e : ℕ) → RightValue e (get_or o e [])) → (e : ℕ) → RightValue e (get_or (fill cs fs o) e [])
 unfolding field_fault fill
 fill_right [] fs p o h k v = v
@@ -111,17 +110,17 @@ fill_right (c ∷ cs) fs p o h (one {f = f} {fs = gs} k ks) v =
     (put_right o c (trim f) (record { fine = q.0; trimmed = trim_twice f; clean = clean_trim f k }) v)
 
 -- Without a fault the observation is the row.
-unless_sound : (f g : Fault) (o r : Observation) → row_unless f g o ≡ row r → (f ≡ Sound) × (g ≡ Sound) × (o ≡ r)
-unless_sound (At k p) g o r h = absurd (bad≢row h)
-unless_sound Sound (At k p) o r h = absurd (bad≢row h)
-unless_sound Sound Sound o r h = (refl, refl, cc)
+unless_sound : (f g : Result Unit Fault) (o r : Observation) → row_unless f g o ≡ row r → (f ≡ Ok tt) × (g ≡ Ok tt) × (o ≡ r)
+unless_sound (Err f) g o r h = absurd (bad≢row h)
+unless_sound (Ok u) (Err g) o r h = absurd (bad≢row h)
+unless_sound (Ok u) (Ok v) o r h = (refl, refl, cc)
 
 -- What a data line that is taken shows: its row is below the limit, has a field for each column, and is the observation of its fields.
 pub record Taken (columns : List ℕ) (k : ℕ) (l : List ℕ) (o : Observation) : Type 0 where
   pub few : k < row_limit
   pub full : length (fields l) ≡ length columns
-  pub fine : field_fault 1 columns (fields l) ≡ Sound
-  pub sound : observation_fault o ≡ Sound
+  pub fine : field_fault 1 columns (fields l) ≡ Ok tt
+  pub sound : observation_fault o ≡ Ok tt
   pub is : row_of columns (fields l) ≡ o
 
 -- A data line that comes to an observation is taken.

@@ -12,7 +12,7 @@ use Rattle.text.specs.Part.{same}
 use Rattle.text.specs.Lines.{bar, line, lines, trim}
 use Rattle.text.proofs.Bools.{bools}
 use Rattle.text.proofs.Parts.{same_is}
-use Rattle.refusal.specs.declared.Fault.TheVariants.{Sound}
+use Rattle.std.specs.Prelude.{Ok}
 use Rattle.element.specs.Table.{elements, name_of, column_order}
 use Rattle.element.specs.Observation.{Observation, is_present, is_radar, holds_any}
 use Rattle.report.specs.declared.state.Need.{Need}
@@ -157,7 +157,7 @@ values_clean : (o : Observation) → Right o → (cs : List ℕ) → Cleans (val
 values_clean o r [] = none
 values_clean o r (c ∷ cs) = one (r.values c).clean (values_clean o r cs)
 
-values_fine : (o : Observation) → Right o → (cs : List ℕ) (p : ℕ) → field_fault p cs (values_at cs o) ≡ Sound
+values_fine : (o : Observation) → Right o → (cs : List ℕ) (p : ℕ) → field_fault p cs (values_at cs o) ≡ Ok tt
 unfolding field_fault
 values_fine o r [] p = refl
 values_fine o r (c ∷ cs) p = rw ((r.values c).trimmed, (r.values c).fine) (values_fine o r cs (suc p))

@@ -19,8 +19,8 @@ use Rattle.layout.specs.Written.{line_of, names_at, data_lines, columns_of, bloc
 use Rattle.layout.proofs.Accepted.{AllRight, right_take, right_drop, accepted_right}
 use Rattle.layout.proofs.BlockReads.{first_column}
 use Rattle.layout.proofs.ColumnLaws.{columns_below, or_second}
-use Rattle.pack.specs.Inner.{observations_of, observed, Indexed, Wrote, Columns, row_line, rows_from, columns_in, Listed, RowAsks, RowsAsk, BlockAsks, BlocksAsk}
-use Rattle.pack.proofs.WritingLaws.{Writing, write_begin, write_next, write_end, write_fits, write_room, write_first, last_fits}
+use Rattle.pack.specs.Inner.{observations_of, observed, Indexed, Wrote, Columns, row_line, rows_from, columns_in, RowAsks, RowsAsk, BlockAsks, BlocksAsk}
+use Rattle.pack.proofs.WritingLaws.{Writing, write_begin, write_next, write_end, write_fits, write_room, write_first, last_fits, last_room, write_last}
 use Rattle.pack.proofs.ColumnLaws.{columns_joined}
 
 -- The observations of a report are right.
@@ -114,49 +114,65 @@ columns_of_lem (o ∷ os) r h =
     member_at (x ∷ l) (suc k) h = or_second (eqb x (get_or l k 0)) (member (get_or l k 0) l) (member_at l k (omega arith))
 
 module _ {report : List ℕ} {index : Index} {before : List ℕ} {first count : ℕ} (asks : BlockAsks report index before first count) where
-  -- The columns that are listed are those of the rows.
-  pub block_columns : {set n : ℕ} {columns : List ℕ} → set ≡ joined 0 (take (first + count - first) (drop first index.sets))
-      → Listed set columns n → take n columns ≡ columns_of (rows_from report first count)
-  block_columns e l =
-      l.are
-      ∙ (ap columns_in (e ∙ ap (joined 0) (rows_sets first count asks.indexed asks.inside))
-      ∙ columns_joined (rows_from report first count))
-
   -- There is room for the version line.
   pub version_room : length (line_of (version_line ∷ [])) ≤ length before
   unfolding block_text
   version_room =
       omega (arith, asks.room, length-append (line_of (version_line ∷ [])) (line_of (names_at (columns_of (rows_from report first count))) ++ data_lines (columns_of (rows_from report first count)) (rows_from report first count)))
 
-  module _ {columns : List ℕ} (e : columns ≡ columns_of (rows_from report first count)) where
+  -- The columns that are listed are those of the rows.
+  module _ {set : ℕ} {columns : List ℕ} (j : set ≡ joined 0 (take (first + count - first) (drop first index.sets))) (l : columns ≡ columns_in set) where
+    columns_are : columns ≡ columns_of (rows_from report first count)
+    columns_are =
+        l
+        ∙ (ap columns_in (j ∙ ap (joined 0) (rows_sets first count asks.indexed asks.inside))
+        ∙ columns_joined (rows_from report first count))
+
     known : Columns columns
     known =
-        rw e (columns_of_lem (rows_from report first count) (right_take count (drop first (observed report)) (right_drop first (observed report) (observed_right report)))
+        rw columns_are (columns_of_lem (rows_from report first count) (right_take count (drop first (observed report)) (right_drop first (observed report) (observed_right report)))
         (omega (arith, rows_length report first count asks.inside, asks.some)))
 
     module _ {after : List ℕ} {named : ℕ} (v : Wrote (line_of (version_line ∷ [])) before after named) where
       -- The version line is written.
-      pub after_version : Writing (block_text (rows_from report first count)) before after named
+      after_version : Writing (block_text (rows_from report first count)) before after named
           (line_of (names_at columns) ++ data_lines columns (rows_from report first count))
       unfolding block_text
-      after_version = rw e (write_first (line_of (version_line ∷ [])) _ asks.room v)
+      after_version = rw columns_are (write_first (line_of (version_line ∷ [])) _ asks.room v)
 
       -- The column line can be written.
       pub names_ask : Columns columns × (length (line_of (names_at columns)) ≤ length (take (length after - named) (drop named after)))
       names_ask = (known, write_fits (line_of (names_at columns)) _ after_version)
 
-      pub names_room : named + length (line_of (names_at columns)) ≤ length after
-      names_room = write_room (line_of (names_at columns)) _ after_version
+      pub names_inside : named + length (line_of (names_at columns)) ≤ length after
+      names_inside = write_room (line_of (names_at columns)) _ after_version
 
-    -- The column line is written: the data lines can be.
-    pub block_rows_lem : {after : List ℕ} {at : ℕ} → Writing (block_text (rows_from report first count)) before after at (data_lines columns (rows_from report first count))
-        → RowsAsk report index columns (take (length after - at) (drop at after)) first count
-    block_rows_lem w = record {
-      indexed = asks.indexed;
-      inside = asks.inside;
-      columns_are = known;
-      room = last_fits (data_lines columns (rows_from report first count)) w;
-    }
+      module _ {lent : List ℕ} {n : ℕ} (w : Wrote (line_of (names_at columns)) (take (length after - named) (drop named after)) lent n) where
+        abbrev pub beyond : List ℕ
+        beyond = take named after ++ (lent ++ drop (length after - named) (drop named after))
+
+        -- The column line is written.
+        after_names : Writing (block_text (rows_from report first count)) before beyond (named + n) (data_lines columns (rows_from report first count))
+        after_names = write_next _ _ after_version w
+
+        -- The data lines can be written.
+        pub lines_ask : RowsAsk report index columns (take (length beyond - (named + n)) (drop (named + n) beyond)) first count
+        lines_ask = record {
+          indexed = asks.indexed;
+          inside = asks.inside;
+          columns_are = known;
+          room = last_fits (data_lines columns (rows_from report first count)) after_names;
+        }
+
+        pub lines_inside : named + n + length (data_lines columns (rows_from report first count)) ≤ length beyond
+        lines_inside = last_room (data_lines columns (rows_from report first count)) after_names
+
+        -- They are written, and so is the block.
+        pub block_written : {after-lines : List ℕ} {m : ℕ}
+            → Wrote (data_lines columns (rows_from report first count)) (take (length beyond - (named + n)) (drop (named + n) beyond)) after-lines m
+            → Wrote (block_text (rows_from report first count)) before
+            (take (named + n) beyond ++ (after-lines ++ drop (length beyond - (named + n)) (drop (named + n) beyond))) (named + n + m)
+        block_written = write_last _ after_names
 
 -- One block after the other.
 

@@ -16,7 +16,7 @@ use Rattle.cuts.specs.Block.{union}
 use Rattle.layout.specs.Written.{passing, columns_of}
 use Rattle.layout.specs.Cost.{as_row}
 use Rattle.layout.proofs.BlockBytes.{columns_set}
-use Rattle.pack.specs.Inner.{columns_in, Listed}
+use Rattle.pack.specs.Inner.{columns_in}
 
 -- The sets of the rows together are the set of the elements present in some row.
 joined_rows : (all : ℕ) (rows : List Observation) → joined all (map set_of rows) ≡ union all (map as_row rows)
@@ -76,8 +76,8 @@ module _ {all : ℕ} {columns : List ℕ} {n k : ℕ} (l : Listing all columns n
     }
 
 -- All of the column order is looked at.
-pub list_end : {all : ℕ} {columns : List ℕ} {n k : ℕ} → Listing all columns n k → elements ≤ k → Listed all columns n
+pub list_end : {all : ℕ} {columns : List ℕ} {n k : ℕ} → Listing all columns n k → elements ≤ k → take n columns ≡ columns_in all
 unfolding columns_in
 list_end {all} {columns} {n} {k} l h =
     let e : k ≡ elements = omega (arith, l.most) in
-    record { few = omega (arith, l.few, l.most); long = l.long; are = rw e at l.are }
+    rw e at l.are

@@ -1,5 +1,5 @@
 -- Laws of an index that notes every observation of a report.
-use Prim.Native.Nat.{ℕ, ◌+◌, ◌*◌, ◌/◌, ◌%◌, ◌^◌, ◌≤◌, ◌<◌}
+use Prim.Native.Nat.{ℕ, ◌+◌, ◌*◌, ◌/◌, ◌%◌, ◌^◌, ◌<◌}
 use mathlib.Core.Path.{◌≡◌, refl, sym, ap, ◌∙◌}
 use mathlib.Core.Bool.{Bool, true, false}
 use mathlib.Core.List.{List, []}
@@ -49,9 +49,3 @@ module _ {report : List ℕ} {index : Index} (row element : ℕ) (x : Indexed re
     value_there =
         let s = (x.noted row inside).shows element known present in
         rw (s.start_is, s.length_is) s.holds
-
-    -- It ends in the report.
-    pub value_inside : get_or index.starts (row * elements + element) 0 + get_or index.lengths (row * elements + element) 0 ≤ length report
-    value_inside =
-        let s = (x.noted row inside).shows element known present in
-        rw (s.start_is, s.length_is) s.inside

@@ -13,7 +13,6 @@ pub mod ColumnLaws
 pub mod BlockLaws
 -- Planning, and the promise met.
 pub mod SizeLaws
-pub mod MarkLaws
 pub mod PlanLaws
 pub mod RowCounts
 pub mod PromiseLaws

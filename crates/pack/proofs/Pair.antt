@@ -13,11 +13,10 @@ use Rattle.text.specs.Part.{same}
 use Rattle.text.proofs.Bools.{bools}
 use Rattle.text.proofs.Outputs.{put_room}
 use Rattle.text.proofs.Parts.{same_refl, same_is}
-use Rattle.refusal.specs.Paper.{Paper, paper, Answer, refused_by, given}
+use Rattle.refusal.specs.Paper.{Paper, paper, Answer, refused_by, given, request}
 use Rattle.refusal.specs.declared.Kind.TheVariants.{OutputTooShort, CutsDiffer}
 use Rattle.element.specs.Observation.{Observation}
 use Rattle.report.specs.Report.{Outcome, accepted, refused, read, row_limit}
-use Rattle.report.specs.Answers.{request}
 use Rattle.layout.specs.Packed.{ShortestCuts}
 use Rattle.layout.specs.Written.{written, Valid}
 use Rattle.layout.proofs.Accepted.{accepted_rows}

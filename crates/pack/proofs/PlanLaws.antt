@@ -16,8 +16,7 @@ use Rattle.element.specs.Observation.{Observation, set_of}
 use Rattle.element.proofs.Sets.{set_radar}
 use Rattle.report.specs.Report.{accepted, read}
 use Rattle.report.specs.Index.{Index, room_in, AcceptedIs, IndexIs}
-use Rattle.report.specs.declared.answer.Checked.{Checked}
-use Rattle.report.proofs.AnswerLaws.{accepted_of, refused_of}
+use Rattle.report.proofs.AnswerLaws.{accepted_of}
 use Rattle.report.proofs.Join.{read_accepted}
 use Rattle.cuts.specs.Cuts.{cost, Cuts}
 use Rattle.cuts.specs.Block.{most_rows, most_bytes, total, value_bytes, bytes_of, block_bytes}
@@ -30,7 +29,7 @@ use Rattle.layout.proofs.NoShorter.{Cutting, no_shorter}
 use Rattle.layout.proofs.BlockBytes.{written_bytes}
 use Rattle.layout.proofs.Packed.{rows_are, together, valid_rows, rows_valid, shortest}
 use Rattle.pack.specs.Inner.{observations_of, observed, Indexed, SizesAre, mark_in, RowsCut, RoomFor, CutIs, PlannedIs}
-use Rattle.pack.specs.declared.plan.Planned.TheVariants as Planned'
+use Rattle.std.specs.Prelude.{Result, Ok}
 use Rattle.pack.proofs.BlockLaws.{rows_sets}
 use Rattle.pack.proofs.SizeLaws.{noted_size}
 
@@ -180,16 +179,11 @@ module _ {report : List ℕ} {index : Index} (is : read report ≡ accepted (obs
 
 -- Planning.
 
--- A refused report.
-pub plan_refused : {report : List ℕ} {room : ℕ} {index : Index} (cuts : List ℕ) {answer : Checked} {refusal : Refusal} → IndexIs report 0 room index answer
-    → answer ≡ Checked.Refused refusal → PlannedIs report index cuts (Planned'.Refused refusal)
-plan_refused cuts i e = record { case = refused_of i e }
-
-module _ {report : List ℕ} {old index : Index} {sizes marks cuts : List ℕ} {answer : Checked} {k : ℕ}
+module _ {report : List ℕ} {old index : Index} {sizes marks cuts : List ℕ} {answer : Result ℕ Refusal} {k : ℕ}
     (room : RoomFor (length (observed report)) old sizes marks cuts)
     (i : IndexIs report 0 (room_in old.sets old.starts old.lengths) index answer) (sets_kept : length index.sets ≡ length old.sets)
     (starts_kept : length index.starts ≡ length old.starts) (lengths_kept : length index.lengths ≡ length old.lengths)
-    (e : answer ≡ Checked.Accepted k) where
+    (e : answer ≡ Ok k) where
   noted : (k ≡ length (observed report)) × Indexed report index
   noted = indexed room (accepted_of i e) sets_kept starts_kept lengths_kept
 
@@ -202,7 +196,7 @@ module _ {report : List ℕ} {old index : Index} {sizes marks cuts : List ℕ} {
 
   -- They are cut.
   pub plan_cut : {filled after : List ℕ} {plan : Plan} → RowsCut index.sets index.lengths filled k cuts after plan
-      → PlannedIs report index after (Planned'.Cut plan)
+      → PlannedIs report index after (Ok plan)
   plan_cut r =
       let a = accepted_of i e in
       record { case = cuts_planned (rw (observed_is report a.is) a.is) noted.1 (rw noted.0 at r) room.cuts_room }

@@ -1,13 +1,11 @@
 -- How many rows a report has: no more than the limit, and no more than it has lines.
-use Prim.Native.Nat.{ℕ, suc, ◌+◌, ◌≤◌, ◌<◌}
+use Prim.Native.Nat.{ℕ, suc, ◌≤◌}
 use mathlib.Core.Path.{◌≡◌, refl, ap, ◌∙◌}
 use mathlib.Core.Bool.{true}
 use mathlib.Core.List.{List, [], ◌∷◌}
-use native.Mathlib.Numerals.{add-one}
 use native.Mathlib.Omega.{arith}
 use lib.Dec.{eqb, leb}
-use lib.ListN.{length, drop, get_or, drop_of_length-le}
-use lib.Seq.{drop-cons}
+use lib.ListN.{length}
 use borrow.Author.Tests.{leb-true}
 use Rattle.text.specs.Lines.{Lines, end, cut, line, lines, onto, line_feed}
 use Rattle.text.proofs.Bools.{bools, both}
@@ -15,16 +13,7 @@ use Rattle.element.specs.Observation.{Observation}
 use Rattle.report.specs.Report.{State, Step, next, row, bad, Outcome, accepted, refused, after_row, after, read_from, read, begin, step, row_limit}
 use Rattle.report.proofs.Join.{refused≢accepted, more_accepted, end_opens, read_accepted}
 use Rattle.layout.proofs.Accepted.{accepted_rows}
-use Rattle.pack.specs.Inner.{observations_of, observed, feed_of, feeds, short_rows, short_text, is_short}
-
--- An LF more.
-pub feeds_next : (t : List ℕ) (i : ℕ) → i < length t → feeds (drop i t) ≡ feed_of (get_or t i 0) + feeds (drop (i + 1) t)
-unfolding feeds
-feeds_next t i h = rw (add-one, drop-cons t i 0)
-
-pub feeds_end : (t : List ℕ) (i : ℕ) → length t ≤ i → feeds (drop i t) ≡ 0
-unfolding feeds
-feeds_end t i h = rw (drop_of_length-le t)
+use Rattle.pack.specs.Inner.{observations_of, observed, feeds, short_rows, short_text, is_short}
 
 -- How many lines there are.
 abbrev line_count : Lines → ℕ

@@ -10,11 +10,10 @@ use borrow.Author.Tests.{le-leb, leb-true}
 use Rattle.text.specs.Output.{has_room, over, put_over}
 use Rattle.text.proofs.Bools.{bools}
 use Rattle.text.proofs.Outputs.{put_room}
-use Rattle.refusal.specs.Paper.{paper, Answer, refused_by, given}
+use Rattle.refusal.specs.Paper.{paper, Answer, refused_by, given, request}
 use Rattle.refusal.specs.declared.Kind.TheVariants.{OutputTooShort}
 use Rattle.element.specs.Observation.{Observation}
 use Rattle.report.specs.Report.{accepted, read}
-use Rattle.report.specs.Answers.{request}
 use Rattle.report.specs.Specimen.{specimen, specimen_observation}
 use Rattle.cuts.specs.Plan.{marked_bytes}
 use Rattle.cuts.specs.Cheapest.{chosen}

@@ -1,25 +1,14 @@
 -- Laws of the rows' sizes: those that are filled in, and that what is noted of an observation makes its size.
-use Prim.Native.Nat.{ℕ, suc, ◌+◌, ◌*◌, ◌/◌, ◌%◌, ◌≤◌, ◌<◌}
-use mathlib.Core.Path.{◌≡◌, refl, ap, ◌∙◌}
+use Prim.Native.Nat.{ℕ, suc, ◌+◌, ◌*◌, ◌/◌, ◌%◌, ◌<◌}
+use mathlib.Core.Path.{◌≡◌, refl, ap}
 use mathlib.Core.Bool.{true}
-use mathlib.Core.List.{List, [], ◌∷◌, ◌++◌}
+use mathlib.Core.List.{List, [], ◌∷◌}
 use native.Mathlib.Omega.{arith}
-use lib.ListN.{get_or-append, length-append, length, get_or}
+use lib.ListN.{length, get_or}
 use Rattle.element.specs.Observation.{Observation, is_present, bit, set_of}
 use Rattle.element.proofs.Sets.{bit_small}
 use Rattle.element.specs.Set.{length_if, bytes_in}
-use Rattle.report.specs.Index.{Sized}
 use Rattle.layout.specs.Cost.{size_of}
-use Rattle.pack.specs.Inner.{SizesAre}
-
--- The sizes of the first rows are filled in, before the others.
-pub sizes_filled : {sets lengths before filled : List ℕ} (rest : List ℕ) {rows count : ℕ} → Sized sets lengths before filled count → count ≡ rows
-    → length filled ≡ rows → SizesAre sets lengths (filled ++ rest) rows
-sizes_filled {filled = filled} rest s c e =
-    record { at = λ i h. let k : i < length filled = omega arith in get_or-append filled rest 0 i k ∙ s.at i (omega arith) }
-
-pub filled_room : (filled rest : List ℕ) (rows : ℕ) → length filled ≡ rows → rows ≤ length (filled ++ rest)
-filled_room filled rest rows e = omega (arith, length-append filled rest)
 
 -- What is noted of an observation, value by value, makes its size.
 pub noted_size : (o : Observation) (lengths : List ℕ) → length lengths ≡ length o

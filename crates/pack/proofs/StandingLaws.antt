@@ -1,19 +1,17 @@
 -- Laws of lines that stand in the report as they are to be written, field by field.
 use Prim.Native.Nat.{ℕ, ◌+◌, ◌-◌, ◌*◌, ◌/◌, ◌%◌, ◌^◌, ◌≤◌, ◌<◌, suc}
 use mathlib.Core.Path.{◌≡◌, refl, sym, ap, ◌∙◌}
-use mathlib.Core.List.{List, [], ◌∷◌, ◌++◌, append-nil, append_assoc, map}
+use mathlib.Core.List.{List, [], ◌∷◌, ◌++◌, append_assoc, map}
 use native.Mathlib.Numerals.{add-one}
 use native.Mathlib.Omega.{arith}
-use lib.ListN.{length, take, drop, get_or, length-append, length-take, length-drop, length-map, drop_of_length-le}
+use lib.ListN.{length, take, drop, get_or, length-append, length-drop, length-map}
 use lib.Seq.{take-add, take-suc, drop-drop, get_or-drop}
-use Rattle.text.specs.Output.{put_over, put_length}
 use Rattle.element.specs.Table.{elements}
 use Rattle.report.specs.Index.{Index}
 use Rattle.layout.specs.Written.{line_of}
-use Rattle.pack.specs.Inner.{observed, Indexed, value_in, Wrote, end_of, field_text, StandsTo}
-use Rattle.pack.proofs.WritingLaws.{put_wrote}
+use Rattle.pack.specs.Inner.{observed, Indexed, value_in, end_of, field_text, StandsTo}
 use Rattle.pack.proofs.IndexLaws.{value_absent, value_long, value_there}
-use Rattle.pack.proofs.FieldLaws.{line_left, line_left_lem, line_next, map_at}
+use Rattle.pack.proofs.FieldLaws.{line_left, line_next, map_at}
 
 -- A value, and the byte after it.
 pub stand_field : (report value : List ℕ) (start end r : ℕ) → take (length value) (drop start report) ≡ value
@@ -30,25 +28,25 @@ stand_field report value start end r e b =
           ∙ (λ i. e i ++ ((get_or-drop start report (length value) 0 ∙ b.2) i ∷ [])));
     }
 
--- The byte at a place, as the answer tells it: 0 where it does not stand there.
+-- A byte stands at a place, and the place after it.
 abbrev ByteTo : List ℕ → ℕ → ℕ → ℕ → Type 0
-ByteTo report at byte r = (r ≡ 0 → ⊥) → (r ≡ at + 1) × (at < length report) × (get_or report at 0 ≡ byte)
+ByteTo report at byte r = (r ≡ at + 1) × (at < length report) × (get_or report at 0 ≡ byte)
 
 -- The value of an element of a row, where the index notes it, and where it is absent.
-module _ {report : List ℕ} {index : Index} (row element : ℕ) (x : Indexed report index) (inside : row < length (observed report)) (start end r : ℕ) where
+module _ {report : List ℕ} {index : Index} (row element : ℕ) (x : Indexed report index) (inside : row < length (observed report)) (start end : ℕ) where
   pub field_there : element < elements → get_or index.sets row 0 / 2 ^ element % 2 ≡ 1 → (w l : ℕ) → w ≡ get_or index.starts (row * elements + element) 0 → w ≡ start
-      → l ≡ get_or index.lengths (row * elements + element) 0 → ByteTo report (start + l) end r → (r ≡ 0 → ⊥) → StandsTo report start (field_text (value_in report row element) end) r
-  field_there known h w l e s d b n =
+      → l ≡ get_or index.lengths (row * elements + element) 0 → (r : ℕ) → ByteTo report (start + l) end r → StandsTo report start (field_text (value_in report row element) end) r
+  field_there known h w l e s d r b =
       let long : l ≡ length (value_in report row element) = d ∙ value_long row element x inside known h in
       let there : take (length (value_in report row element)) (drop start report) ≡ value_in report row element =
       (λ i. take ((sym long ∙ d) i) (drop ((sym s ∙ e) i) report)) ∙ value_there row element x inside known h in
-      stand_field report (value_in report row element) start end r there (rw long at (b n))
+      stand_field report (value_in report row element) start end r there (rw long at b)
 
-  pub field_absent : (get_or index.sets row 0 / 2 ^ element % 2 ≡ 1 → ⊥) → ByteTo report start end r → (r ≡ 0 → ⊥) → StandsTo report start (field_text (value_in report row element) end) r
-  field_absent h b n =
+  pub field_absent : (get_or index.sets row 0 / 2 ^ element % 2 ≡ 1 → ⊥) → (r : ℕ) → ByteTo report start end r → StandsTo report start (field_text (value_in report row element) end) r
+  field_absent h r b =
       let here : start + 0 ≡ start = omega arith in
       rw (← value_absent row element x inside h)
-      (stand_field report [] start end r refl (omega (arith, (b n).0), omega (arith, (b n).1), ap (λ (k : ℕ). get_or report k 0) here ∙ (b n).2))
+      (stand_field report [] start end r refl (omega (arith, b.0), omega (arith, b.1), ap (λ (k : ℕ). get_or report k 0) here ∙ b.2))
 
 -- The first of a line's fields stand in the report, from the start up to `at`; the rest is left.
 pub record Standing (report : List ℕ) (start : ℕ) (text : List ℕ) (at k : ℕ) (rest : List ℕ) : Type 0 where
@@ -78,41 +76,9 @@ module _ (f : ℕ → List ℕ) (columns report : List ℕ) (start : ℕ) where
   abbrev line : List ℕ
   line = line_of (map f columns)
 
-  pub stand_begin : 0 < length columns → Standing report start line start 0 (line_left (drop 0 (map f columns)))
-  stand_begin some =
-      let none : start - start ≡ 0 = omega arith in
-      record {
-        within = omega arith;
-        inside = λ h. absurd (omega arith);
-        is =
-            ap (λ (n : ℕ). take n (drop start report) ++ line_left (map f columns)) none
-            ∙ line_left_lem (map f columns) (omega (arith, length-map columns f));
-      }
-
   pub stand_more : (at k end next : ℕ) → k < length columns → end ≡ end_of (k + 1) (length columns)
       → Standing report start line at k (line_left (drop k (map f columns))) → StandsTo report at (field_text (f (get_or columns k 0)) end) next
       → Standing report start line next (k + 1) (line_left (drop (k + 1) (map f columns)))
   stand_more at k end next h e s p =
       stand_next report start line at k next (field_text (f (get_or columns k 0)) end) (line_left (drop (k + 1) (map f columns)))
       (rw (e, ← length-map columns f, ← map_at f columns k h, ← line_next (map f columns) k (omega (arith, length-map columns f))) s) p
-
-  pub stand_end : (at k : ℕ) → 0 < length columns → k ≤ length columns → length columns ≤ k → Standing report start line at k (line_left (drop k (map f columns)))
-      → StandsTo report start line at
-  stand_end at k some g h s =
-      let none : drop k (map f columns) ≡ [] = drop_of_length-le (map f columns) {i = k} (omega (arith, length-map columns f)) in
-      let is : take (at - start) (drop start report) ≡ line = sym (append-nil (take (at - start) (drop start report))) ∙ ap (λ (l : List (List ℕ)). take (at - start) (drop start report) ++ line_left l) (sym none) ∙ s.is in
-      let long : length line ≡ at - start =
-      sym (ap length is) ∙ length-take (at - start) (drop start report) ∙ omega (arith, length-drop start report, s.inside (omega arith), s.within) in
-      record {
-        ends = omega (arith, long, s.within);
-        inside = s.inside (omega arith);
-        is = ap (λ (n : ℕ). take n (drop start report)) long ∙ is;
-      }
-
--- What stands there is put.
-pub stand_put : (report text before after : List ℕ) (start end n : ℕ) → StandsTo report start text end → length text ≤ length before
-    → (n ≡ put_length (take (end - start) (drop start report)) before) × (after ≡ put_over (take (end - start) (drop start report)) before) → Wrote text before after n
-stand_put report text before after start end n s h p =
-    let long : end - start ≡ length text = omega (arith, s.ends) in
-    let is : take (end - start) (drop start report) ≡ text = ap (λ (k : ℕ). take k (drop start report)) long ∙ s.is in
-    put_wrote text before h (rw is at p)

@@ -3,10 +3,12 @@ use Prim.Native.Nat.{ℕ}
 use mathlib.Core.Path.{◌≡◌, refl, sym, ap, ◌∙◌}
 use mathlib.Core.List.{List}
 use native.Mathlib.Omega.{arith}
+use Rattle.std.specs.Prelude.{Result, Ok, Err}
 use lib.ListN.{length}
 use Rattle.text.specs.Output.{put_over}
 use Rattle.text.specs.Part.{same}
 use Rattle.refusal.specs.Paper.{Paper, Answer, refused_by, absent, given}
+use Rattle.refusal.specs.declared.Refusal.{Refusal}
 use Rattle.refusal.proofs.Papers.{refusal_of, refusal_of_paper}
 use Rattle.report.specs.Report.{Outcome, accepted, refused, read}
 use Rattle.layout.specs.Written.{written}
@@ -14,7 +16,6 @@ use Rattle.layout.proofs.Unique.{cuts_unique}
 use Rattle.pack.specs.Promise.{measured_paper, MeasureCase, MeasurePromised}
 use Rattle.pack.specs.Promise.{written_paper, written_answer, written_over, WriteCase, WritePromised}
 use Rattle.pack.specs.declared.Measured.{Measured}
-use Rattle.pack.specs.declared.Written.{Written}
 
 -- A refusal is no length.
 pub refused≢given : {A : Type 0} (x : Paper) (a : A) → refused_by x ≡ given a → ⊥
@@ -37,17 +38,17 @@ pub one_measured : (report before after other : List ℕ) (answer second : Answe
 one_measured report before after other answer second p q = one_measure_case (read report) before after other answer second p.case q.case
 
 -- The answer of measuring that the paper's answer is.
-abbrev measured_from : Answer (ℕ × ℕ) → Measured
-measured_from (refused_by x) = Measured.Refused (refusal_of x)
-measured_from absent = Measured.Shortest 0 0
-measured_from (given pair) = Measured.Shortest pair.0 pair.1
+abbrev measured_from : Answer (ℕ × ℕ) → Result Measured Refusal
+measured_from (refused_by x) = Err (refusal_of x)
+measured_from absent = Ok (record { length = 0; blocks = 0 })
+measured_from (given pair) = Ok (record { length = pair.0; blocks = pair.1 })
 
-measured_from_paper : (answer : Measured) → measured_from (measured_paper answer) ≡ answer
-measured_from_paper (Measured.Shortest n blocks) = refl
-measured_from_paper (Measured.Refused x) = ap Measured.Refused (refusal_of_paper x)
+measured_from_paper : (answer : Result Measured Refusal) → measured_from (measured_paper answer) ≡ answer
+measured_from_paper (Ok measured) = refl
+measured_from_paper (Err x) = ap Err (refusal_of_paper x)
 
 -- So it settles the answer of measuring: no two are written alike.
-pub one_measure : (report before after other : List ℕ) (answer second : Measured) → MeasurePromised report before after (measured_paper answer)
+pub one_measure : (report before after other : List ℕ) (answer second : Result Measured Refusal) → MeasurePromised report before after (measured_paper answer)
     → MeasurePromised report before other (measured_paper second) → (answer ≡ second) × (after ≡ other)
 one_measure report before after other answer second p q =
     let e = one_measured report before after other (measured_paper answer) (measured_paper second) p q in
@@ -71,17 +72,17 @@ one_written report handed before after other answer second p q =
     one_write_case (read report) handed before after other answer second p.case q.case
 
 -- The answer of writing that the paper's answer is.
-abbrev written_from : Answer ℕ → Written
-written_from (refused_by x) = Written.Refused (refusal_of x)
-written_from absent = Written.Length 0
-written_from (given n) = Written.Length n
+abbrev written_from : Answer ℕ → Result ℕ Refusal
+written_from (refused_by x) = Err (refusal_of x)
+written_from absent = Ok 0
+written_from (given n) = Ok n
 
-written_from_paper : (answer : Written) → written_from (written_paper answer) ≡ answer
-written_from_paper (Written.Length n) = refl
-written_from_paper (Written.Refused x) = ap Written.Refused (refusal_of_paper x)
+written_from_paper : (answer : Result ℕ Refusal) → written_from (written_paper answer) ≡ answer
+written_from_paper (Ok n) = refl
+written_from_paper (Err x) = ap Err (refusal_of_paper x)
 
 -- So it settles the answer of writing: no two are written alike.
-pub one_write : (report handed before after other : List ℕ) (answer second : Written) → WritePromised report handed before after (written_paper answer)
+pub one_write : (report handed before after other : List ℕ) (answer second : Result ℕ Refusal) → WritePromised report handed before after (written_paper answer)
     → WritePromised report handed before other (written_paper second) → (answer ≡ second) × (after ≡ other)
 one_write report handed before after other answer second p q =
     let e = one_written report handed before after other (written_paper answer) (written_paper second) p q in

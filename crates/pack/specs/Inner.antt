@@ -1,21 +1,19 @@
 -- What the private functions of packing promise each other. A reviewer of the promise can skip this file.
-use Rattle.std.specs.Prelude.{ℕ, ◌+◌, ◌*◌, ◌≤◌, ◌<◌, ◌≡◌, Bool, cond, ◌&&◌, List, [], ◌∷◌, ◌++◌, map, eqb, leb, ltb, length, take, drop, get_or}
+use Rattle.std.specs.Prelude.{ℕ, ◌+◌, ◌*◌, ◌≤◌, ◌<◌, ◌≡◌, Bool, cond, ◌&&◌, List, [], ◌∷◌, ◌++◌, map, eqb, leb, ltb, length, take, drop, get_or, Result, Ok, Err}
 use Rattle.text.specs.Lines.{line_feed, bar}
 use Rattle.text.specs.Output.{over, put_over}
-use Rattle.refusal.specs.Paper.{paper, Answer, refused_by, given}
-use Rattle.refusal.specs.declared.Kind.TheVariants.{OutputTooShort, CutsDiffer}
+use Rattle.refusal.specs.declared.Refusal.{Refusal}
 use Rattle.element.specs.Set.{has}
 use Rattle.element.specs.Table.{elements, column_order}
 use Rattle.element.specs.Observation.{Observation, bit, is_radar_set}
-use Rattle.report.specs.Report.{Outcome, accepted, refused, read}
-use Rattle.report.specs.Answers.{request}
+use Rattle.report.specs.Report.{Outcome, accepted, refused, read, row_limit}
 use Rattle.report.specs.Starts.{starts_in}
 use Rattle.report.specs.Index.{Index, Noted, noted_bytes}
 use Rattle.cuts.specs.Plan.{ShortestPromised}
 use Rattle.cuts.specs.declared.Plan.{Plan}
 use Rattle.layout.specs.Packed.{ShortestCuts}
 use Rattle.layout.specs.Written.{passing, line_of, values_at, data_lines, block_text, written, Valid}
-use Rattle.pack.specs.declared.plan.Planned.{Planned}
+use Rattle.pack.specs.declared.Measured.{Measured}
 
 -- The observations of what a report reads as, none where it is refused.
 abbrev pub observations_of : Outcome → List Observation
@@ -80,12 +78,6 @@ pub record StandsTo (report : List ℕ) (start : ℕ) (text : List ℕ) (end : �
 unfoldable pub columns_in : ℕ → List ℕ
 columns_in set = passing (has set) column_order
 
--- The first n of the list are the elements of the set.
-pub record Listed (set : ℕ) (columns : List ℕ) (n : ℕ) : Type 0 where
-  pub few : n ≤ elements
-  pub long : length columns ≡ elements
-  pub are : take n columns ≡ columns_in set
-
 -- ---- blocks
 
 -- So many rows of the report, from a first one on.
@@ -137,6 +129,10 @@ pub record RoomFor (rows : ℕ) (index : Index) (sizes marks cuts : List ℕ) : 
   pub marks_room : rows ≤ length marks
   pub cuts_room : rows ≤ length cuts
 
+-- The report has no more than so many rows, and so many sets and values are those of one row more.
+abbrev pub RoomAsks : List ℕ → ℕ → ℕ → ℕ → Type 0
+RoomAsks report rows sets values = (length (observed report) ≤ rows) × (rows ≤ row_limit) × (sets ≡ rows + 1) × (values ≡ sets * elements)
+
 -- The first of the cuts are those of the packed report, which has so many bytes, and the index notes the report.
 pub record CutIs (report : List ℕ) (index : Index) (cuts : List ℕ) (plan : Plan) : Type 0 where
   pub is : read report ≡ accepted (observed report)
@@ -146,36 +142,27 @@ pub record CutIs (report : List ℕ) (index : Index) (cuts : List ℕ) (plan : P
   pub bytes_are : plan.bytes ≡ length (written (take plan.blocks cuts) (observed report))
 
 -- By what planning answers.
-abbrev pub PlannedCase : List ℕ → Index → List ℕ → Planned → Type 0
-PlannedCase report index cuts (Planned.Cut plan) = CutIs report index cuts plan
-PlannedCase report index cuts (Planned.Refused refusal) = read report ≡ refused refusal
+abbrev pub PlannedCase : List ℕ → Index → List ℕ → Result Plan Refusal → Type 0
+PlannedCase report index cuts (Ok plan) = CutIs report index cuts plan
+PlannedCase report index cuts (Err refusal) = read report ≡ refused refusal
 
 -- What planning promises: the cuts of the packed report, or the report's refusal.
-pub record PlannedIs (report : List ℕ) (index : Index) (cuts : List ℕ) (answer : Planned) : Type 0 where
+pub record PlannedIs (report : List ℕ) (index : Index) (cuts : List ℕ) (answer : Result Plan Refusal) : Type 0 where
   pub case : PlannedCase report index cuts answer
 
 -- ---- the answers
 
 -- The length and the number of blocks of a plan are given, and its cuts are put over the start of the lent list.
-pub record Given (found : List ℕ) (plan : Plan) (before after : List ℕ) (answer : Answer (ℕ × ℕ)) : Type 0 where
-  pub answer_is : answer ≡ given (plan.bytes, plan.blocks)
+pub record Given (found : List ℕ) (plan : Plan) (before after : List ℕ) (answer : Measured) : Type 0 where
+  pub answer_is : answer ≡ record { length = plan.bytes; blocks = plan.blocks }
   pub list_is : after ≡ put_over (take plan.blocks found) before
 
--- What writing so many bytes into an output of so many answers, where the cuts are right or not.
-abbrev pub room_answer : Bool → ℕ → ℕ → Answer ℕ
-room_answer right n room =
-    cond right (cond (leb n room) (given n) (refused_by (paper (request OutputTooShort)))) (refused_by (paper (request CutsDiffer)))
-
 -- ---- short reports
-
--- 1 for LF, else 0.
-abbrev pub feed_of : ℕ → ℕ
-feed_of byte = cond (eqb byte line_feed) 1 0
 
 -- How many LFs a text has.
 unfoldable pub feeds : List ℕ → ℕ
 feeds [] = 0
-feeds (byte ∷ text) = feed_of byte + feeds text
+feeds (byte ∷ text) = cond (eqb byte line_feed) (1 + feeds text) (feeds text)
 
 -- The most rows that a short report has, and the most bytes.
 abbrev pub short_rows : ℕ

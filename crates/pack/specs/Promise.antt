@@ -1,18 +1,16 @@
 -- What the two calls of packing promise, over what reading means. `measure` gives the length of the packed report, the number of its blocks
 -- and their cuts; `write`, handed these cuts, writes it over the start of the lent output. Nothing here speaks of a search.
-use Rattle.std.specs.Prelude.{ℕ, ◌≡◌, Bool, cond, List, length}
+use Rattle.std.specs.Prelude.{ℕ, ◌≡◌, Bool, cond, List, length, Result, Ok, Err}
 use Rattle.text.specs.Output.{has_room, put_over}
 use Rattle.text.specs.Part.{same}
-use Rattle.refusal.specs.Paper.{paper, Answer, refused_by, given}
+use Rattle.refusal.specs.Paper.{paper, Answer, refused_by, given, request}
 use Rattle.refusal.specs.declared.Kind.TheVariants.{OutputTooShort, CutsDiffer}
 use Rattle.refusal.specs.declared.Refusal.{Refusal}
 use Rattle.element.specs.Observation.{Observation}
 use Rattle.report.specs.Report.{Outcome, accepted, refused, read}
-use Rattle.report.specs.Answers.{request}
 use Rattle.layout.specs.Packed.{ShortestCuts, PackedIs}
 use Rattle.layout.specs.Written.{written}
 use Rattle.pack.specs.declared.Measured.{Measured}
-use Rattle.pack.specs.declared.Written.{Written}
 
 -- Of a refused report each call gives its refusal. No refusal changes what is lent.
 pub record RefusedAs {A : Type 0} (refusal : Refusal) (before after : List ℕ) (answer : Answer A) : Type 0 where
@@ -22,9 +20,9 @@ pub record RefusedAs {A : Type 0} (refusal : Refusal) (before after : List ℕ) 
 -- ---- the length
 
 -- The answer of measuring as the paper gives it: the length of the packed report and the number of its blocks, or a refusal.
-abbrev pub measured_paper : Measured → Answer (ℕ × ℕ)
-measured_paper (Measured.Shortest n blocks) = given (n, blocks)
-measured_paper (Measured.Refused x) = refused_by (paper x)
+abbrev pub measured_paper : Result Measured Refusal → Answer (ℕ × ℕ)
+measured_paper (Ok measured) = given (measured.length, measured.blocks)
+measured_paper (Err x) = refused_by (paper x)
 
 -- Of an accepted report: the length of its packed report and the number of its blocks. The cuts are written over the start of the lent list,
 -- and numbers after the last cut stay. Where there is no room for all of them none is written.
@@ -46,9 +44,9 @@ pub record MeasurePromised (report before after : List ℕ) (answer : Answer (�
 -- ---- writing
 
 -- The answer of writing as the paper gives it: the length of the packed report, or a refusal.
-abbrev pub written_paper : Written → Answer ℕ
-written_paper (Written.Length n) = given n
-written_paper (Written.Refused x) = refused_by (paper x)
+abbrev pub written_paper : Result ℕ Refusal → Answer ℕ
+written_paper (Ok n) = given n
+written_paper (Err x) = refused_by (paper x)
 
 -- The length of the packed report, or 15: the lent output is shorter than it.
 abbrev pub packed_answer : List ℕ → List ℕ → Answer ℕ

@@ -15,21 +15,12 @@ pub(crate) fn cut_marked(sets: &[u64], sizes: &[u32], marks: &mut [u8], cuts: &m
     cuts::shortest(marks, sets, sizes, cuts)
 }
 
-// Writes the mark of each row.
+// Writes the mark of each row: 1 of a radar observation, 0 of an optical one.
 fn fill_marks(sets: &[u64], marks: &mut [u8])
     requires { length marks.old ≡ length sets.now }
     ensures { marks.new ≡ map mark_in sets.now }
 {
-    let mut i: usize = 0;
-    while i < sets.len() {
-        marks[i] = mark_of(sets[i]);
-        i += 1;
+    for (i, mark) in marks.iter_mut().enumerate() {
+        *mark = u8::from(is_radar(sets[i]));
     }
-}
-
-// The mark of a row with this set: 1 of a radar observation, 0 of an optical one.
-fn mark_of(set: u64) -> u8
-    ensures { result ≡ mark_in set }
-{
-    if is_radar(set) { 1 } else { 0 }
 }

@@ -1,49 +1,28 @@
 // The length of the packed report, and its cuts.
-ghost use Rattle.std.specs.Prelude.{◌≤◌, length};
+ghost use Rattle.std.specs.Prelude.{◌≡◌, ◌≤◌, length};
 ghost use Rattle.report.specs.Index.{lent};
 ghost use Rattle.pack.specs.Promise.{measured_paper, MeasurePromised};
-ghost use Rattle.pack.specs.Inner.{observed, short_rows, RoomFor, Given};
+ghost use Rattle.pack.specs.Inner.{observed, RoomAsks, RoomFor, Given};
 
 use crate::Measured;
-use crate::plan::{Planned, plan};
-use crate::short::SHORT_ROWS;
+use crate::plan::plan;
 use cuts::Plan;
-use element::ELEMENTS;
-use report::ROW_LIMIT;
+use refusal::Refusal;
 
-// Measures a report of few rows. It makes the lists for them.
-pub(crate) fn measure_short(report: &[u8], cuts: &mut [u16]) -> Measured
-    requires { length (observed report.now) ≤ short_rows }
+// Measures a report of no more than so many rows. It makes the lists for them, and for one row more, which the reader uses itself.
+pub(crate) fn measure_rows<const ROWS: usize, const SETS: usize, const VALUES: usize>(
+    report: &[u8],
+    cuts: &mut [u16],
+) -> Result<Measured, Refusal>
+    requires { RoomAsks report.now ROWS SETS VALUES }
     ensures { MeasurePromised report.now cuts.old cuts.new (measured_paper result) }
 {
-    let mut sets = [0u64; SHORT_ROWS + 1];
-    let mut starts = [0u16; (SHORT_ROWS + 1) * ELEMENTS];
-    let mut lengths = [0u16; (SHORT_ROWS + 1) * ELEMENTS];
-    let mut sizes = [0u32; SHORT_ROWS];
-    let mut marks = [0u8; SHORT_ROWS];
-    let mut found = [0u16; SHORT_ROWS];
-    measure_with(
-        report,
-        &mut sets,
-        &mut starts,
-        &mut lengths,
-        &mut sizes,
-        &mut marks,
-        &mut found,
-        cuts,
-    )
-}
-
-// Measures any report. It makes the lists for as many rows as a report can have.
-pub(crate) fn measure_long(report: &[u8], cuts: &mut [u16]) -> Measured
-    ensures { MeasurePromised report.now cuts.old cuts.new (measured_paper result) }
-{
-    let mut sets = [0u64; ROW_LIMIT + 1];
-    let mut starts = [0u16; (ROW_LIMIT + 1) * ELEMENTS];
-    let mut lengths = [0u16; (ROW_LIMIT + 1) * ELEMENTS];
-    let mut sizes = [0u32; ROW_LIMIT];
-    let mut marks = [0u8; ROW_LIMIT];
-    let mut found = [0u16; ROW_LIMIT];
+    let mut sets = [0u64; SETS];
+    let mut starts = [0u16; VALUES];
+    let mut lengths = [0u16; VALUES];
+    let mut sizes = [0u32; ROWS];
+    let mut marks = [0u8; ROWS];
+    let mut found = [0u16; ROWS];
     measure_with(
         report,
         &mut sets,
@@ -66,27 +45,22 @@ fn measure_with(
     marks: &mut [u8],
     found: &mut [u16],
     cuts: &mut [u16],
-) -> Measured
+) -> Result<Measured, Refusal>
     requires { RoomFor (length (observed report.now)) (lent sets.old starts.old lengths.old) sizes.old marks.old found.old }
     ensures { MeasurePromised report.now cuts.old cuts.new (measured_paper result) }
 {
-    let planned = plan(report, sets, starts, lengths, sizes, marks, found);
-    match planned {
-        Planned::Refused(refusal) => {
-            return Measured::Refused(refusal);
-        }
-        Planned::Cut(plan) => {
-            return give_cuts(found, plan, cuts);
-        }
-    }
+    let plan = plan(report, sets, starts, lengths, sizes, marks, found)?;
+    Ok(give_cuts(found, plan, cuts))
 }
 
 // Writes the cuts of a plan over the start of the lent list where it has room for them, and gives the plan's length and number of blocks.
 fn give_cuts(found: &[u16], plan: Plan, cuts: &mut [u16]) -> Measured
     requires { plan.blocks ≤ length found.now }
-    ensures { Given found.now plan cuts.old cuts.new (measured_paper result) }
+    ensures { Given found.now plan cuts.old cuts.new result }
 {
-    let blocks = plan.blocks;
-    text::list::put(&found[..blocks], cuts);
-    Measured::Shortest(plan.bytes as usize, blocks)
+    text::list::put(&found[..plan.blocks], cuts);
+    Measured {
+        length: plan.bytes as usize,
+        blocks: plan.blocks,
+    }
 }

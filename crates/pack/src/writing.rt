@@ -1,53 +1,29 @@
 // The packed report written by its cuts.
 ghost use Rattle.std.specs.Prelude.{◌≡◌, ◌≤◌, length};
 ghost use Rattle.report.specs.Index.{lent};
-ghost use Rattle.report.specs.Answers.{request};
 ghost use Rattle.pack.specs.Promise.{written_paper, WritePromised};
-ghost use Rattle.pack.specs.Inner.{observed, short_rows, RoomFor, CutIs, room_answer};
+ghost use Rattle.pack.specs.Inner.{observed, RoomAsks, RoomFor, CutIs};
 
-use crate::Written;
 use crate::block::write_blocks;
-use crate::plan::{Planned, plan};
-use crate::short::SHORT_ROWS;
+use crate::plan::plan;
 use cuts::Plan;
-use element::ELEMENTS;
 use refusal::{Kind, Refusal};
-use report::ROW_LIMIT;
 
-// Writes a report of few rows by cuts. It makes the lists for them.
-pub(crate) fn write_short(report: &[u8], cuts: &[u16], output: &mut [u8]) -> Written
-    requires { length (observed report.now) ≤ short_rows }
+// Writes a report of no more than so many rows by cuts. It makes the lists for them, and for one row more, which the reader uses itself.
+pub(crate) fn write_rows<const ROWS: usize, const SETS: usize, const VALUES: usize>(
+    report: &[u8],
+    cuts: &[u16],
+    output: &mut [u8],
+) -> Result<usize, Refusal>
+    requires { RoomAsks report.now ROWS SETS VALUES }
     ensures { WritePromised report.now cuts.now output.old output.new (written_paper result) }
 {
-    let mut sets = [0u64; SHORT_ROWS + 1];
-    let mut starts = [0u16; (SHORT_ROWS + 1) * ELEMENTS];
-    let mut lengths = [0u16; (SHORT_ROWS + 1) * ELEMENTS];
-    let mut sizes = [0u32; SHORT_ROWS];
-    let mut marks = [0u8; SHORT_ROWS];
-    let mut found = [0u16; SHORT_ROWS];
-    write_with(
-        report,
-        cuts,
-        &mut sets,
-        &mut starts,
-        &mut lengths,
-        &mut sizes,
-        &mut marks,
-        &mut found,
-        output,
-    )
-}
-
-// Writes any report by cuts. It makes the lists for as many rows as a report can have.
-pub(crate) fn write_long(report: &[u8], cuts: &[u16], output: &mut [u8]) -> Written
-    ensures { WritePromised report.now cuts.now output.old output.new (written_paper result) }
-{
-    let mut sets = [0u64; ROW_LIMIT + 1];
-    let mut starts = [0u16; (ROW_LIMIT + 1) * ELEMENTS];
-    let mut lengths = [0u16; (ROW_LIMIT + 1) * ELEMENTS];
-    let mut sizes = [0u32; ROW_LIMIT];
-    let mut marks = [0u8; ROW_LIMIT];
-    let mut found = [0u16; ROW_LIMIT];
+    let mut sets = [0u64; SETS];
+    let mut starts = [0u16; VALUES];
+    let mut lengths = [0u16; VALUES];
+    let mut sizes = [0u32; ROWS];
+    let mut marks = [0u8; ROWS];
+    let mut found = [0u16; ROWS];
     write_with(
         report,
         cuts,
@@ -72,19 +48,12 @@ fn write_with(
     marks: &mut [u8],
     found: &mut [u16],
     output: &mut [u8],
-) -> Written
+) -> Result<usize, Refusal>
     requires { RoomFor (length (observed report.now)) (lent sets.old starts.old lengths.old) sizes.old marks.old found.old }
     ensures { WritePromised report.now cuts.now output.old output.new (written_paper result) }
 {
-    let planned = plan(report, sets, starts, lengths, sizes, marks, found);
-    match planned {
-        Planned::Refused(refusal) => {
-            return Written::Refused(refusal);
-        }
-        Planned::Cut(plan) => {
-            return write_planned(report, cuts, sets, starts, lengths, found, plan, output);
-        }
-    }
+    let plan = plan(report, sets, starts, lengths, sizes, marks, found)?;
+    write_planned(report, cuts, sets, starts, lengths, found, plan, output)
 }
 
 // Writes the packed report where the cuts are those of its plan and the output has room for it.
@@ -97,43 +66,15 @@ fn write_planned(
     found: &[u16],
     plan: Plan,
     output: &mut [u8],
-) -> Written
+) -> Result<usize, Refusal>
     requires { CutIs report.now (lent sets.now starts.now lengths.now) found.now plan }
     ensures { WritePromised report.now cuts.now output.old output.new (written_paper result) }
 {
-    let blocks = plan.blocks;
-    let right = text::list::same(cuts, &found[..blocks]);
-    let answer = answer_of(right, plan.bytes as usize, output.len());
-    match answer {
-        Written::Refused(refusal) => {
-            return Written::Refused(refusal);
-        }
-        Written::Length(_) => {
-            return Written::Length(write_blocks(report, sets, starts, lengths, cuts, output));
-        }
+    if cuts != &found[..plan.blocks] {
+        return Err(Refusal::of_request(Kind::CutsDiffer));
     }
-}
-
-// What writing a packed report of so many bytes into an output of so many answers, where the cuts are right or not.
-fn answer_of(right: bool, length: usize, room: usize) -> Written
-    ensures { written_paper result ≡ room_answer right length room }
-{
-    if !right {
-        return refused(Kind::CutsDiffer);
+    if output.len() < plan.bytes as usize {
+        return Err(Refusal::of_request(Kind::OutputTooShort));
     }
-    if room < length {
-        return refused(Kind::OutputTooShort);
-    }
-    Written::Length(length)
-}
-
-// The refusal of a request, which has line and place 0.
-fn refused(kind: Kind) -> Written
-    ensures { result ≡ Written.Refused (request kind) }
-{
-    Written::Refused(Refusal {
-        kind: kind,
-        line: 0,
-        place: 0,
-    })
+    Ok(write_blocks(report, sets, starts, lengths, cuts, output))
 }

@@ -5,12 +5,15 @@ use mathlib.Core.Logic.{◌⊎◌, inl, inr}
 use mathlib.Core.List.{List, [], ◌∷◌}
 use mathlib.Core.Bool.{Bool, true, false}
 use lib.Dec.{eqb}
-use lib.ListN.{length, get_or, take}
+use lib.ListN.{length, take}
 use lib.Seq.{length-take-le, get_or-take}
+use borrow.Author.Tests.{eq-eqb, ne_eqb, eqb-true, eqb-false}
 use native.Mathlib.Omega.{arith}
 use Rattle.std.specs.Prelude.{Option, Result, Ok, Err}
+use Rattle.std.specs.List.{starts_with}
 use Rattle.text.specs.Lines.{fields, printable}
 use Rattle.text.specs.Part.{same}
+use Rattle.text.proofs.Bools.{bools}
 use Rattle.refusal.specs.Paper.{at}
 use Rattle.refusal.specs.declared.Fault.{Fault}
 use Rattle.refusal.specs.declared.Kind.TheVariants.{WrongByte, VersionExpected}
@@ -21,13 +24,13 @@ use Rattle.report.specs.declared.state.Need.{Need}
 use Rattle.report.specs.declared.state.State.{State as CodeState}
 use Rattle.report.specs.declared.state.Taken.{Taken}
 
-pub hash_none : (l : List ℕ) → length l ≡ 0 → false ≡ is_hash l
-hash_none [] h = refl
-hash_none (b ∷ l) h = absurd (omega arith)
-
-pub hash_some : (l : List ℕ) → (length l ≡ 0 → ⊥) → eqb (get_or l 0 0) 35 ≡ is_hash l
-hash_some [] n = absurd (n refl)
-hash_some (b ∷ l) n = refl
+-- A line starts with `#` where its first byte is one.
+pub hash_is : (l : List ℕ) → starts_with eqb l (35 ∷ []) ≡ is_hash l
+hash_is [] = refl
+hash_is (b ∷ l) =
+    bools (eqb b 35)
+    (λ e. rw (e, eq-eqb 35 b (sym (eqb-true b 35 e))))
+    (λ e. rw (e, ne_eqb 35 b (λ z. eqb-false b 35 e (sym z))))
 
 -- A line that does not begin with `#`, by what the block needs.
 module _ {need : Need} (columns : List ℕ) (radar : Bool) (k : ℕ) (l : List ℕ) where
@@ -75,10 +78,7 @@ pub row_asks : {t columns : List ℕ} {from till parts : ℕ} {s : CodeState} �
 row_asks {columns = columns} {s = s} a =
     let e : length (take s.columns columns) ≡ s.columns = length-take-le s.columns columns (omega (arith, a.known.few, a.wide)) in
     record {
-      order = a.order;
-      in_text = a.in_text;
-      short = a.short;
-      parts_are = a.parts_are;
+      lies = a.lies;
       few = omega (arith, e, a.known.few);
       known = λ j b. let b' : j < s.columns = omega arith in rw (get_or-take s.columns columns j 0 b') (a.known.known j b');
     }

@@ -186,10 +186,12 @@ module _ {t columns : List ℕ} {first room : ℕ} {rows : List Row} {at number 
       line_asks =
           let r = rest_of t at v.at_most in (
             record {
-              order = omega arith;
-              in_text = inside;
-              short = omega (arith, inside, v.short);
-              parts_are = c.parts_is ∙ ap (λ (l : List ℕ). length (fields l)) (ap (λ (l : List ℕ). first_line l) r ∙ sym line_is);
+              lies = record {
+                order = omega arith;
+                in_text = inside;
+                short = omega (arith, inside, v.short);
+                parts_are = c.parts_is ∙ ap (λ (l : List ℕ). length (fields l)) (ap (λ (l : List ℕ). first_line l) r ∙ sym line_is);
+              };
               wide = omega (arith, v.wide);
               known = v.known;
             },

@@ -210,8 +210,8 @@ module _ {t columns : List ℕ} {noted : Row} {from till a k : ℕ} {m : Marks} 
     pub entry_inside : (get_or columns k 0 < elements) × (from + start < 65536) × (size < 65536)
     entry_inside = (
       asks.known k h,
-      omega (arith, fields_inside, asks.order, asks.short),
-      omega (arith, fields_inside, asks.order, asks.short),
+      omega (arith, fields_inside, asks.lies.order, asks.lies.short),
+      omega (arith, fields_inside, asks.lies.order, asks.lies.short),
     )
 
     -- The value is right, its marks are put on and it is noted.
@@ -255,7 +255,7 @@ module _ {t columns : List ℕ} {noted : Row} {from till a k : ℕ} {m : Marks} 
       unfolding sofar' at'
       shows' =
           noted_on t noted noted' (get_or columns k 0) (from + start) size s.sofar s.at value (asks.known k h) s.wide s.at_wide s.starts_long s.lengths_long
-          (omega (arith, fields_inside, asks.order, asks.in_text, size_is)) holds size_is with_value s.shows
+          (omega (arith, fields_inside, asks.lies.order, asks.lies.in_text, size_is)) holds size_is with_value s.shows
 
       long' : (length noted'.starts ≡ length noted.starts) × (length noted'.lengths ≡ length noted.lengths)
       long' = long_on noted noted' (get_or columns k 0) (from + start) size with_value
@@ -334,21 +334,18 @@ row_many columns k l h = rw (le-ltb k row_limit h)
 module _ {t columns : List ℕ} {from till parts k : ℕ} (asks : RowAsks t columns from till parts) (h : k < row_limit) where
   pub row_count : (parts ≡ length columns → ⊥) → data_line columns k (between t from till) ≡ bad FieldCountDiffers 0
   unfolding data_line
-  row_count n = rw (lt-ltb k row_limit h, ne_eqb (length (fields (between t from till))) (length columns) (λ e. n (asks.parts_are ∙ e)))
+  row_count n = rw (lt-ltb k row_limit h, ne_eqb (length (fields (between t from till))) (length columns) (λ e. n (asks.lies.parts_are ∙ e)))
 
   pub fields_ask : parts ≡ length columns → FieldsAsk t columns from till
   fields_ask c = record {
-    parts = sym asks.parts_are ∙ c;
-    order = asks.order;
-    in_text = asks.in_text;
-    short = asks.short;
+    lies = rw c at asks.lies;
     few = asks.few;
     known = asks.known;
   }
 
   module _ (c : parts ≡ length columns) where
     count_is : length (fields (between t from till)) ≡ length columns
-    count_is = sym asks.parts_are ∙ c
+    count_is = sym asks.lies.parts_are ∙ c
 
     pub row_fields : {fault : Fault} → field_fault 1 columns (fields (between t from till)) ≡ Err fault
         → data_line columns k (between t from till) ≡ bad fault.kind fault.place

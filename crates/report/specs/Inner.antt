@@ -27,6 +27,13 @@ use Rattle.report.specs.declared.state.Taken.{Taken}
 abbrev pub between : List ℕ → ℕ → ℕ → List ℕ
 between t from till = take (till - from) (drop from t)
 
+-- A line of a text, between two places, with so many fields.
+pub record LineIn (t : List ℕ) (from till parts : ℕ) : Type 0 where
+  pub order : from ≤ till
+  pub in_text : till < length t
+  pub short : till < 65536
+  pub parts_are : parts ≡ length (fields (between t from till))
+
 -- The reader's state as the definition has it: the columns are the first of the list.
 abbrev pub state_of : CodeState → List ℕ → State
 state_of s columns = record { need = s.need; columns = take s.columns columns; radar = s.radar }
@@ -89,10 +96,7 @@ unfoldable pub held_by : Marks → Option Bool → Result Bool Fault
 held_by m before = kind_by (set_fault m.present m.wgs84 m.earth) before (is_radar_set m.present)
 
 pub record FieldsAsk (t columns : List ℕ) (from till : ℕ) : Type 0 where
-  pub parts : length (fields (between t from till)) ≡ length columns
-  pub order : from ≤ till
-  pub in_text : till < length t
-  pub short : till < 65536
+  pub lies : LineIn t from till (length columns)
   pub few : length columns ≤ elements
   pub known : (k : ℕ) → k < length columns → get_or columns k 0 < elements
 
@@ -116,10 +120,7 @@ noted_in x element start size =
 -- ---- a data line
 
 pub record RowAsks (t columns : List ℕ) (from till parts : ℕ) : Type 0 where
-  pub order : from ≤ till
-  pub in_text : till < length t
-  pub short : till < 65536
-  pub parts_are : parts ≡ length (fields (between t from till))
+  pub lies : LineIn t from till parts
   pub few : length columns ≤ elements
   pub known : (k : ℕ) → k < length columns → get_or columns k 0 < elements
 
@@ -180,10 +181,7 @@ pub record TookLine (t columns columns' : List ℕ) (x y : Row) (from till k : �
   pub case : LineCase t columns columns' x y from till k old taken r
 
 pub record LineAsks (t columns : List ℕ) (from till parts : ℕ) (s : CodeState) : Type 0 where
-  pub order : from ≤ till
-  pub in_text : till < length t
-  pub short : till < 65536
-  pub parts_are : parts ≡ length (fields (between t from till))
+  pub lies : LineIn t from till parts
   pub wide : elements ≤ length columns
   pub known : Known s columns
 

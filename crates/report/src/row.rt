@@ -5,6 +5,7 @@ ghost use Rattle.report.specs.Inner.{mark_on, held_by, noted_in, FieldsAsk, Fiel
 
 use crate::ROW_LIMIT;
 use crate::index::Row;
+use crate::line::Line;
 use element::form;
 use element::observation::{is_radar, observation_fault};
 use refusal::{Fault, Kind};
@@ -21,16 +22,14 @@ pub struct Marks {
 // observation, which is noted in a row of the index, 21. It says whether its observation is radar.
 pub(crate) fn data_line(
     report: &[u8],
-    from: usize,
-    till: usize,
-    fields: usize,
+    line: Line,
     columns: &[u8],
     row: &mut Row,
     k: usize,
     before: Option<bool>,
 ) -> Result<bool, Fault>
-    requires { RowAsks report.now columns.now from till fields }
-    ensures { RowIs report.now columns.now row.new from till k before result }
+    requires { RowAsks report.now columns.now line.from line.till line.fields }
+    ensures { RowIs report.now columns.now row.new line.from line.till k before result }
 {
     if k >= ROW_LIMIT {
         return Err(Fault {
@@ -38,13 +37,13 @@ pub(crate) fn data_line(
             place: 0,
         });
     }
-    if fields != columns.len() {
+    if line.fields != columns.len() {
         return Err(Fault {
             kind: Kind::FieldCountDiffers,
             place: 0,
         });
     }
-    let marks = take_fields(report, from, till, columns, row)?;
+    let marks = take_fields(report, line, columns, row)?;
     row.present = marks.present;
     held(marks, before)
 }
@@ -65,18 +64,17 @@ fn held(marks: Marks, before: Option<bool>) -> Result<bool, Fault>
     })
 }
 
-// The fields of the data line from..till: the first fault, or the marks of its observation; where each value lies is noted in the row.
+// The fields of a data line: the first fault, or the marks of its observation; where each value lies is noted in the row.
 fn take_fields(
     report: &[u8],
-    from: usize,
-    till: usize,
+    line: Line,
     columns: &[u8],
     row: &mut Row,
 ) -> Result<Marks, Fault>
-    requires { FieldsAsk report.now columns.now from till }
-    ensures { FieldsAre report.now columns.now row.new from till result }
+    requires { FieldsAsk report.now columns.now line.from line.till }
+    ensures { FieldsAre report.now columns.now row.new line.from line.till result }
 {
-    let line = &report[from..till];
+    let text = &report[line.from..line.till];
     let mut marks = Marks {
         present: 0,
         wgs84: false,
@@ -84,16 +82,16 @@ fn take_fields(
     };
     let mut at: usize = 0;
     for (k, column) in columns.iter().enumerate() {
-        let field = text::lines::field_at(line, at);
+        let field = text::lines::field_at(text, at);
         let start = field.value.start;
         let end = start + field.value.length;
-        let value = &line[start..end];
+        let value = &text[start..end];
         let column = usize::from(*column);
         if let Err(kind) = form::fault(column, value) {
             return Err(Fault { kind, place: k + 1 });
         }
         marks = marked(marks, column, value);
-        note(row, column, from + start, field.value.length);
+        note(row, column, line.from + start, field.value.length);
         at = field.till + 1;
     }
     Ok(marks)

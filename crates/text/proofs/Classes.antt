@@ -1,31 +1,15 @@
 -- Laws of the bytes of a class that a text starts with, each in the form that a loop asks for.
-use Prim.Native.Nat.{ℕ, suc, ◌+◌, ◌≤◌, ◌<◌, zero-le, suc-le-suc}
+use Prim.Native.Nat.{ℕ, ◌≤◌, zero-le, suc-le-suc}
 use mathlib.Core.Path.{◌≡◌, refl, ap, sym, ◌∙◌}
 use mathlib.Core.Bool.{Bool, true, false, ◌||◌}
 use mathlib.Core.List.{List, [], ◌∷◌}
-use native.Mathlib.Numerals.{add-one}
 use lib.Dec.{leb, eqb}
-use lib.ListN.{length, get_or, drop, drop_of_length-le}
-use lib.Seq.{drop-cons}
+use lib.ListN.{length}
 use borrow.Author.Tests.{leb-true}
 use Rattle.text.specs.Class.{is_between, is_digit, is_capital, is_of, leading}
 use Rattle.text.specs.declared.class.Class.{Class}
 use Rattle.text.specs.declared.class.Class.TheVariants.{Alphanumeric}
 use Rattle.text.proofs.Bools.{bools, both}
-
--- One byte more.
-module _ (k : Class) (s : List ℕ) (i : ℕ) where
-  pub leading_yes : i < length s → is_of k (get_or s i 0) ≡ true → leading k (drop i s) ≡ suc (leading k (drop (i + 1) s))
-  unfolding leading
-  leading_yes h e = rw (drop-cons s i 0, e, add-one)
-
-  pub leading_no : i < length s → is_of k (get_or s i 0) ≡ false → leading k (drop i s) ≡ 0
-  unfolding leading
-  leading_no h e = rw (drop-cons s i 0, e)
-
-  pub leading_end : length s ≤ i → leading k (drop i s) ≡ 0
-  unfolding leading
-  leading_end h = rw drop_of_length-le
 
 -- A text starts with no more bytes of a class than it has.
 pub leading_le : (k : Class) (s : List ℕ) → leading k s ≤ length s

@@ -1,4 +1,5 @@
 pub mod Bools
+pub mod Chains
 pub mod Classes
 pub mod LineLaws
 pub mod Numbers

@@ -5,6 +5,7 @@ use mathlib.Core.List.{List, [], ◌∷◌, ◌++◌}
 use mathlib.Core.Bool.{Bool, true, false, cond, not, ◌&&◌, ◌||◌}
 use lib.ListN.{length, take, drop, get_or, drop_of_length-le, length-drop, length-take, take-append-drop}
 use lib.Dec.{eqb, leb}
+use Rattle.std.proofs.Common.{get_or-drop}
 use lib.Seq.{take_all, take-nil, take-take, drop-drop, drop-cons, take-suc, take-length}
 use borrow.Author.Tests.{eq-eqb, ne_eqb, eqb-false, leb-true, le-leb}
 use native.Mathlib.Numerals.{add-one}
@@ -105,13 +106,6 @@ module _ (s : List ℕ) (right : Bool) (parts i : ℕ) (v : Scanning s right par
       let p : printable (first_line s) ≡ right && true = rw f at v.all in
       let n : suc (length (fields (first_line s))) ≡ parts + 1 = rw f at v.count in
       record { size_is = up_to_here 10 s i v.size h q; right_is = sym (p ∙ and_true right); parts_is = omega arith }
-
-  pub scan_end : length s ≤ i → ScannedIs s i right parts
-  scan_end h =
-      let f : first_line (drop i s) ≡ [] = rw drop_of_length-le in
-      let p : printable (first_line s) ≡ right && true = rw f at v.all in
-      let n : suc (length (fields (first_line s))) ≡ parts + 1 = rw f at v.count in
-      record { size_is = up_to_end 10 s i v.size h; right_is = sym (p ∙ and_true right); parts_is = omega arith }
 
   pub scan_on : i < length s → (get_or s i 0 ≡ 10 → ⊥) → (p : Bool) → p ≡ is_printable (get_or s i 0) → (n : ℕ) → n ≡ cond (eqb (get_or s i 0) 124) 1 0
       → Scanning s (right && p) (parts + n) (i + 1)
@@ -221,6 +215,34 @@ scan_over s parts i till v order h e n (g, few) =
       count = omega (arith, v.count, ap (λ (x : List ℕ). length (fields x)) l, over_count (first_line r) a, g);
     }
 
+-- The byte at i of what stands from f on.
+module _ (s : List ℕ) (f i : ℕ) (h : f ≤ length s) (k : i < length (take (length s - f) (drop f s))) where
+  pub rest_in : f + i < length s
+  rest_in = omega (arith, length-take (length s - f) (drop f s), length-drop f s)
+
+  pub rest_at : get_or (take (length s - f) (drop f s)) i 0 ≡ get_or s (f + i) 0
+  rest_at = rw (take_all (length s - f) (drop f s) (omega (arith, length-drop f s)), get_or-drop)
+
+-- A pass over the first line in steps: what is left of the text, and how many fields have begun.
+pub record Stepping (s left : List ℕ) (parts : ℕ) : Type 0 where
+  pub rest : left ≡ drop (length s - length left) s
+  pub passed : Scanning s true parts (length s - length left)
+
+pub step_start : (s : List ℕ) → Stepping s s 1
+step_start s = let e : length s - length s ≡ 0 = omega arith in record { rest = rw e; passed = rw e (scan_start s) }
+
+-- A step of w printable bytes, of which n are bars.
+pub step_over : (s left step after : List ℕ) (parts w : ℕ) → Stepping s left parts → w ≤ length left → step ≡ take w left → after ≡ drop w left
+    → printable step ≡ true → (n : ℕ) → (n ≡ bars_in step) × (n ≤ length step) → Stepping s after (parts + n)
+step_over s left step after parts w v h front back e n g =
+    let i : ℕ = length s - length left in
+    let size : length left ≡ length s - i = ap length v.rest ∙ length-drop i s in
+    let till : length s - length after ≡ i + w = omega (arith, ap length back, length-drop w left) in
+    let wide : i + w - i ≡ w = omega arith in
+    let rest : after ≡ drop (i + w) s = back ∙ ap (drop w) v.rest ∙ drop-drop w i s in
+    let part : take (i + w - i) (drop i s) ≡ step = rw (wide, ← v.rest, front) in
+    record { rest = rw till rest; passed = rw till (scan_over s parts i (i + w) v.passed (omega arith) (omega arith) (rw part e) n (rw part g)) }
+
 -- Blanks.
 
 pub blanks_le : (s : List ℕ) → leading_blanks s ≤ length s
@@ -230,17 +252,6 @@ blanks_le (b ∷ t) = bools (eqb b 32) (λ e. rw e (omega (arith, blanks_le t)))
 pub drop_blanks : (s : List ℕ) → drop (leading_blanks s) s ≡ drop_lead s
 drop_blanks [] = refl
 drop_blanks (b ∷ t) = bools (eqb b 32) (λ e. rw (e, drop_blanks t)) (λ e. rw e)
-
-module _ (s : List ℕ) (i : ℕ) (inv : leading_blanks s ≡ i + leading_blanks (drop i s)) where
-  pub blanks_on : i < length s → get_or s i 0 ≡ 32 → leading_blanks s ≡ (i + 1) + leading_blanks (drop (i + 1) s)
-  blanks_on h q =
-      let e : leading_blanks (drop i s) ≡ suc (leading_blanks (drop (i + 1) s)) = rw (add-one, drop-cons s i 0, eq-eqb _ _ q) in omega arith
-
-  pub blanks_here : i < length s → (get_or s i 0 ≡ 32 → ⊥) → i ≡ leading_blanks s
-  blanks_here h n = let e : leading_blanks (drop i s) ≡ 0 = rw (drop-cons s i 0, ne_eqb _ _ n) in omega arith
-
-  pub blanks_end : length s ≤ i → i ≡ leading_blanks s
-  blanks_end h = let e : leading_blanks (drop i s) ≡ 0 = rw drop_of_length-le in omega arith
 
 -- A blank at the end goes, and any other byte stays.
 trail_blank : (s : List ℕ) (b : ℕ) → b ≡ 32 → drop_trail (s ++ b ∷ []) ≡ drop_trail s
@@ -269,9 +280,6 @@ module _ (s : List ℕ) (e : ℕ) (inv : drop_trail s ≡ drop_trail (take e s))
   pub trail_here : 0 < e → e ≤ length s → (get_or s (e - 1) 0 ≡ 32 → ⊥) → e ≡ length (drop_trail s)
   trail_here p h n = sym (length_of_take e s h) ∙ ap length (trail_bytes p h n)
 
-  pub trail_end : e ≤ 0 → e ≡ length (drop_trail s)
-  trail_end h = let q : e ≡ 0 = omega arith in rw (inv, q)
-
 -- What is left without trailing blanks is the first bytes of the text, as many as it is long.
 before_front : (b : ℕ) (t left : List ℕ) → take (length left) t ≡ left → take (length (before b left)) (b ∷ t) ≡ before b left
 before_front b t [] e = bools (eqb b 32) (λ q. rw q) (λ q. rw q)
@@ -289,9 +297,6 @@ trail_start s = rw take-length
 -- What `&s[a..]` holds.
 pub rest_of : (s : List ℕ) (a : ℕ) → a ≤ length s → take (length s - a) (drop a s) ≡ drop a s
 rest_of s a h = take_all (length s - a) (drop a s) (omega (arith, length-drop a s))
-
-pub rest_length : (s : List ℕ) (a : ℕ) → a ≤ length s → length (take (length s - a) (drop a s)) ≡ length s - a
-rest_length s a h = rw (rest_of s a h, length-drop)
 
 pub drop_take : (s w : ℕ) (x : List ℕ) → drop s (take w x) ≡ take (w - s) (drop s x)
 drop_take zero w x = rw sub-zero

@@ -1,20 +1,20 @@
 -- Writing over the start of a lent output, and numbers as bytes, low byte first.
 use Rattle.std.specs.Prelude.{ℕ, zero, suc, ◌+◌, ◌*◌, ◌/◌, ◌%◌, Bool, cond, List, [], ◌∷◌, ◌++◌, leb, length, drop}
 
--- The text over the start of the output: bytes after its end stay.
-unfoldable pub over : List ℕ → List ℕ → List ℕ
+-- The text over the start of the output: what stands after its end stays.
+unfoldable pub over : {A : Type 0} → List A → List A → List A
 over text output = text ++ drop (length text) output
 
 -- The output has room for all of the text.
-abbrev pub has_room : List ℕ → List ℕ → Bool
+abbrev pub has_room : {A : Type 0} → List A → List A → Bool
 has_room text output = leb (length text) (length output)
 
 -- The output after the text was put there: over its start where there is room for all of it, otherwise unchanged.
-unfoldable pub put_over : List ℕ → List ℕ → List ℕ
+unfoldable pub put_over : {A : Type 0} → List A → List A → List A
 put_over text output = cond (has_room text output) (over text output) output
 
--- How many bytes were put: all of the text where there is room, otherwise none.
-unfoldable pub put_length : List ℕ → List ℕ → ℕ
+-- How many items were put: all of the text where there is room, otherwise none.
+unfoldable pub put_length : {A : Type 0} → List A → List A → ℕ
 put_length text output = cond (has_room text output) (length text) 0
 
 -- The first `count` bytes of a number, low byte first.

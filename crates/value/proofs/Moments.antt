@@ -48,7 +48,7 @@ time_two s from e h p q =
     record { inside = b.0; tens = rw p at a.1; ones = rw q at b.1 }
 
 -- Two digits put after a number.
-number_two : (n x y : ℕ) → is_digit x ≡ true → is_digit y ≡ true → number n (x ∷ y ∷ []) ≡ n * 100 + (x * 10 + y - 528)
+number_two : (n x y : ℕ) → is_digit x ≡ true → is_digit y ≡ true → number n (x ∷ y ∷ []) ≡ n * 100 + ((x - 48) * 10 + (y - 48))
 unfolding number after
 number_two n x y p q = rw (p, q) (omega (arith, digit_range x p, digit_range y q))
 
@@ -59,7 +59,7 @@ module _ (s : List ℕ) (from : ℕ) (two : TwoDigits s from) where
       let k : suc from < length s = omega (arith, two.inside) in
       rw (add-one, drop-cons s from 0 h, drop-cons s (suc from) 0 k)
 
-  pub two_is : get_or s from 0 * 10 + get_or s (from + 1) 0 - 528 ≡ part from 2 s
+  pub two_is : (get_or s from 0 - 48) * 10 + (get_or s (from + 1) 0 - 48) ≡ part from 2 s
   unfolding part
   two_is = rw both_are (omega (arith, number_two 0 (get_or s from 0) (get_or s (from + 1) 0) two.tens two.ones))
 
@@ -68,8 +68,8 @@ pub four_is : (s : List ℕ) → TwoDigits s 2 → part 0 2 s * 100 + part 2 2 s
 unfolding part
 four_is s two =
     let n = number 0 (take 2 s) in
-    let e : number n (take 2 (drop 2 s)) ≡ n * 100 + (get_or s 2 0 * 10 + get_or s 3 0 - 528) =
+    let e : number n (take 2 (drop 2 s)) ≡ n * 100 + ((get_or s 2 0 - 48) * 10 + (get_or s 3 0 - 48)) =
     ap (number n) (both_are s 2 two) ∙ number_two n (get_or s 2 0) (get_or s 3 0) two.tens two.ones in
-    let f : get_or s 2 0 * 10 + get_or s 3 0 - 528 ≡ number 0 (take 2 (drop 2 s)) = two_is s 2 two in
+    let f : (get_or s 2 0 - 48) * 10 + (get_or s 3 0 - 48) ≡ number 0 (take 2 (drop 2 s)) = two_is s 2 two in
     let g : number 0 (take 4 s) ≡ number n (take 2 (drop 2 s)) = ap (number 0) (take-add 2 2 s) ∙ number_append 0 (take 2 s) (take 2 (drop 2 s)) in
     omega arith

@@ -6,13 +6,14 @@ use mathlib.Core.List.{List, [], ◌∷◌, ◌++◌}
 use native.Mathlib.Nat.{le_trans, lt_of_lt_of_le, mul_assoc, mul_comm, mul-le-mul_right, pow-suc}
 use native.Mathlib.Omega.{arith}
 use lib.Dec.{leb, ltb}
-use lib.ListN.{length, get_or, take, drop}
+use lib.ListN.{length, take, drop}
 use borrow.Author.Tests.{ltb-true, ltb-false, lt-ltb, le-leb, leb-true}
+use Rattle.std.specs.List.{list_any}
 use Rattle.text.specs.Class.{is_digit, leading}
 use Rattle.text.specs.Digits.{after, number}
 use Rattle.text.proofs.Bools.{bools, both, neither, never}
 use Rattle.text.proofs.Classes.{digit_range}
-use Rattle.text.proofs.Numbers.{number_front, number_small, number_step, number_end}
+use Rattle.text.proofs.Numbers.{number_front, number_small}
 use Rattle.text.proofs.Parts.{take_below}
 use Rattle.value.specs.Decimal.{places, is_too_wide, Any, Positive, is_within}
 use Rattle.value.specs.Numeral.{digits, part}
@@ -84,30 +85,24 @@ number_places n (b ∷ s) =
     (λ q. let e : suc (length s) - suc (digits s) - 1 ≡ length s - digits s - 1 = omega arith in rw (q, e) (number_places n s))
     (λ q. let e : suc (length s) - 0 - 1 ≡ length s = omega arith in rw (q, e, skipped n b q) (number_under n s))
 
--- Looking for a digit above 0 among those left.
-module _ (s : List ℕ) (i : ℕ) (inv : number 0 s ≡ number 0 (drop i s)) where
-  pub positive_here : i < length s → leb 49 (get_or s i 0) && leb (get_or s i 0) 57 ≡ true → true ≡ ltb 0 (number 0 s)
-  unfolding after
-  positive_here h e =
-      let b = get_or s i 0 in
-      let p = both (leb 49 b) (leb b 57) e in
-      let low : 49 ≤ b = leb-true 49 b p.0 in
-      let one : 1 ≤ after 0 b = rw (le-leb 48 b (omega arith), p.1) (omega arith) in
-      sym (lt-ltb 0 (number 0 s) (rw (inv, number_step s i 0 h) (le_trans one (number_grows (after 0 b) (drop (i + 1) s)))))
-
-  pub positive_on : i < length s → leb 49 (get_or s i 0) && leb (get_or s i 0) 57 ≡ false → number 0 s ≡ number 0 (drop (i + 1) s)
-  unfolding after
-  positive_on h e =
-      let b = get_or s i 0 in
-      let zero_is : after 0 b ≡ 0 =
-      bools (is_digit b)
-      (λ q.
-      let r = digit_range b q in
-      bools (ltb 48 b)
-      (λ t. let low : 49 ≤ b = ltb-true 48 b t in never (sym (rw (le-leb 49 b low, le-leb b 57 r.1) at e)))
-      (λ t. rw q (omega (arith, ltb-false 48 b t))))
-      (λ q. rw q) in
-      inv ∙ number_step s i 0 h ∙ ap (λ (n : ℕ). number n (drop (i + 1) s)) zero_is
-
-  pub positive_end : length s ≤ i → false ≡ ltb 0 (number 0 s)
-  positive_end h = sym (ap (ltb 0) (inv ∙ number_end s i 0 h))
+-- A digit above 0 makes the number of a text one above 0, and nothing else does.
+pub positive_is : (s : List ℕ) → list_any (λ byte. leb 49 byte && leb byte 57) s ≡ ltb 0 (number 0 s)
+unfolding number after
+positive_is [] = refl
+positive_is (b ∷ s) =
+    bools (leb 49 b && leb b 57)
+    (λ q.
+    let p = both (leb 49 b) (leb b 57) q in
+    let low : 49 ≤ b = leb-true 49 b p.0 in
+    let one : 1 ≤ after 0 b = rw (le-leb 48 b (omega arith), p.1) (omega arith) in
+    rw q (sym (lt-ltb 0 (number (after 0 b) s) (le_trans one (number_grows (after 0 b) s)))))
+    (λ q.
+    let zero_is : after 0 b ≡ 0 =
+    bools (is_digit b)
+    (λ d.
+    let r = digit_range b d in
+    bools (ltb 48 b)
+    (λ t. let low : 49 ≤ b = ltb-true 48 b t in never (sym (rw (le-leb 49 b low, le-leb b 57 r.1) at q)))
+    (λ t. rw d (omega (arith, ltb-false 48 b t))))
+    (λ d. rw d) in
+    rw (q, zero_is) (positive_is s))

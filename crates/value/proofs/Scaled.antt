@@ -2,17 +2,18 @@
 use Prim.Native.Nat.{ℕ, zero, suc, ◌+◌, ◌-◌, ◌*◌, ◌/◌, ◌%◌, ◌^◌, ◌≤◌, ◌<◌, zero-le}
 use mathlib.Core.Path.{◌≡◌, refl, sym, ap, ◌∙◌}
 use mathlib.Core.Bool.{Bool, true, false, ◌&&◌, ◌||◌}
-use mathlib.Core.List.{List}
-use native.Mathlib.Numerals.{add-one}
+use mathlib.Core.List.{List, [], ◌∷◌}
 use native.Mathlib.Omega.{arith}
 use lib.Dec.{eqb, leb, ltb, lit<}
 use lib.IntN.{ℤ, pos, ◌-ℤ◌}
-use lib.ListN.{length, get_or, take, drop, length-take, length-drop, drop_of_length-le}
-use lib.Seq.{drop-cons}
+use lib.ListN.{length, get_or, take, drop, length-take, length-drop}
 use mir.Syntax.{w64}
 use mir.Val.{SFits}
 use borrow.Author.Tests.{eqb-true, leb-true, ltb-true, ltb-false, lt-ltb, le-ltb}
-use Rattle.std.specs.Prelude.{Ok}
+use Rattle.std.specs.List.{position, position_or_len}
+use Rattle.std.specs.Option.{unwrap_or}
+use Rattle.std.specs.Prelude.{Ok, Some, None, cond}
+use Rattle.std.proofs.lemmas.Bool.Decides.{nat_tests}
 use Rattle.text.specs.Class.{is_digit}
 use Rattle.text.specs.Digits.{after, number}
 use Rattle.text.proofs.Bools.{bools, both}
@@ -25,19 +26,18 @@ use Rattle.value.specs.Sign.{is_minus, is_signed, bare, with_sign}
 use Rattle.value.specs.Covariance.{is_mark, before_mark, mantissa, exponent, is_exponent, is_scaled, size, power, scaled_as, covariance}
 use Rattle.value.specs.declared.Value.TheVariants.{Scaled}
 
--- One byte more, and the end.
-module _ (s : List ℕ) (i : ℕ) where
-  pub mark_no : i < length s → is_mark (get_or s i 0) ≡ false → before_mark (drop i s) ≡ suc (before_mark (drop (i + 1) s))
-  unfolding before_mark
-  mark_no h e = rw (drop-cons s i 0, e, add-one)
+-- A byte before them makes a place one more, and the length too.
+one_more : (i n before : ℕ) → unwrap_or (cond (ltb i n) (Some i) None) n ≡ before → unwrap_or (cond (ltb (1 + i) (suc n)) (Some (1 + i)) None) (suc n) ≡ suc before
+one_more i n before e = grind (arith, nat_tests)
 
-  pub mark_yes : i < length s → is_mark (get_or s i 0) ≡ true → before_mark (drop i s) ≡ 0
-  unfolding before_mark
-  mark_yes h e = rw (drop-cons s i 0, e)
-
-  pub mark_end : length s ≤ i → before_mark (drop i s) ≡ 0
-  unfolding before_mark
-  mark_end h = rw drop_of_length-le
+-- The first `e` or `E` found, or the length where there is none.
+pub mark_is : (s : List ℕ) → unwrap_or (position is_mark s) (length s) ≡ before_mark s
+unfolding before_mark
+mark_is [] = refl
+mark_is (b ∷ s) =
+    bools (is_mark b)
+    (λ q. rw (q, lt-ltb 0 (suc (length s)) (omega arith)))
+    (λ q. rw q (one_more (position_or_len is_mark s) (length s) (before_mark s) (mark_is s)))
 
 -- What is known after each byte of a text: the parts so far are those of a whole number of no more digits than bytes passed, and what is left, put after it, makes the number of the text.
 pub record InParts (s : List ℕ) (high low i : ℕ) : Type 0 where

@@ -1,17 +1,29 @@
--- A text compared with words one after the other.
+-- A text looked for among words that are lent.
 use Prim.Native.Nat.{ℕ}
-use mathlib.Core.Path.{◌≡◌, sym, ◌∙◌}
-use mathlib.Core.Bool.{Bool, ◌||◌, or-false, or_assoc}
+use denote.Ref.{Bor}
+use lib.Dec.{eqb}
+use mathlib.Core.Path.{◌≡◌, refl, sym}
 use mathlib.Core.List.{List, [], ◌∷◌}
+use borrow.Author.Tests.{eqb-true, eqb-false, ne_eqb}
+use Rattle.std.specs.Cmp.Lexicographic.{pointwise}
+use Rattle.std.specs.List.{list_any}
 use Rattle.text.specs.Part.{same}
-use Rattle.value.specs.Word.{is_one_of}
+use Rattle.text.proofs.Bools.{bools}
+use Rattle.value.specs.Word.{borrowed, is_one_of}
 
--- A test holds already, or the text is one of the words, each tested after those before it.
-abbrev pub joined : Bool → List (List ℕ) → List ℕ → Bool
-joined test [] text = test
-joined test (word ∷ words) text = joined (test || same text word) words text
+-- Which of two bytes stands first does not matter.
+exchanged : (a b : ℕ) → eqb a b ≡ eqb b a
+exchanged a b = bools (eqb a b) (λ q. rw (eqb-true a b q)) (λ q. rw (q, ne_eqb b a (λ z. eqb-false a b q (sym z))))
 
--- Tests joined from the left say what tests joined from the right say.
-pub joined_is : (test : Bool) (words : List (List ℕ)) (text : List ℕ) → joined test words text ≡ (test || is_one_of words text)
-joined_is test [] text = sym (or-false test)
-joined_is test (word ∷ words) text = joined_is (test || same text word) words text ∙ or_assoc test (same text word) (is_one_of words text)
+-- Bytes that are equal one by one are the same text.
+same_is : (word text : List ℕ) → pointwise eqb word text ≡ same text word
+unfolding same
+same_is [] [] = refl
+same_is [] (b ∷ text) = refl
+same_is (a ∷ word) [] = refl
+same_is (a ∷ word) (b ∷ text) = rw (exchanged a b, same_is word text)
+
+-- One of the words equals the text, or none does.
+pub listed_is : (words : List (Bor (List ℕ))) (text : List ℕ) → list_any (λ word. pointwise eqb word.now text) words ≡ is_one_of (borrowed words) text
+listed_is [] text = refl
+listed_is (word ∷ words) text = rw (same_is word.now text, listed_is words text)

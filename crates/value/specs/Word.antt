@@ -1,5 +1,6 @@
 -- Words out of a list. A mode or sys word outside the list is 10, and so is a flag other than 0 or 1.
-use Rattle.std.specs.Prelude.{ℕ, Bool, false, cond, ◌||◌, List, [], ◌∷◌, Result, Ok, Err}
+use Rattle.std.specs.Prelude.{ℕ, Bool, false, cond, ◌||◌, List, [], ◌∷◌, map, Result, Ok, Err}
+use denote.Ref.{Bor}
 use Rattle.text.specs.Bytes.{bytes}
 use Rattle.text.specs.Part.{same}
 use Rattle.refusal.specs.declared.Kind.{Kind}
@@ -11,6 +12,14 @@ use Rattle.value.specs.declared.Value.TheVariants.{NoValue}
 abbrev pub is_one_of : List (List ℕ) → List ℕ → Bool
 is_one_of [] text = false
 is_one_of (word ∷ words) text = same text word || is_one_of words text
+
+-- What is lent, in order.
+abbrev pub borrowed : List (Bor (List ℕ)) → List (List ℕ)
+borrowed words = map (λ (word : Bor (List ℕ)). word.now) words
+
+-- One of the words, without a value.
+abbrev pub word_of : List (List ℕ) → List ℕ → Result Value Kind
+word_of words text = cond (is_one_of words text) (Ok NoValue) (Err OutOfRange)
 
 -- The modes: 000's examples, closed.
 abbrev pub modes : List (List ℕ)
@@ -27,7 +36,7 @@ modes =
 
 -- PHO ENC CCD MER MIC NOR VID PMT.
 unfoldable pub mode : List ℕ → Result Value Kind
-mode text = cond (is_one_of modes text) (Ok NoValue) (Err OutOfRange)
+mode text = word_of modes text
 
 -- The systems of a location, in capitals.
 abbrev pub systems : List (List ℕ)
@@ -35,7 +44,7 @@ systems = bytes "WGS84" ∷ bytes "ITRF" ∷ bytes "IAU" ∷ bytes "ICRF_AU" ∷
 
 -- WGS84 ITRF IAU ICRF_AU ICRF_KM.
 unfoldable pub system : List ℕ → Result Value Kind
-system text = cond (is_one_of systems text) (Ok NoValue) (Err OutOfRange)
+system text = word_of systems text
 
 -- The flags.
 abbrev pub flags : List (List ℕ)
@@ -43,4 +52,4 @@ flags = bytes "0" ∷ bytes "1" ∷ []
 
 -- 0 or 1, without a value.
 unfoldable pub flag : List ℕ → Result Value Kind
-flag text = cond (is_one_of flags text) (Ok NoValue) (Err OutOfRange)
+flag text = word_of flags text

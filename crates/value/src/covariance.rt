@@ -2,11 +2,10 @@
 ghost use Rattle.std.specs.Prelude.{◌≡◌, true, ◌≤◌, length};
 ghost use Rattle.text.specs.Digits.{number};
 ghost use Rattle.value.specs.Check.{less_value};
-ghost use Rattle.value.specs.Covariance.{is_mark, before_mark, is_exponent, is_scaled, power, scaled_as, covariance};
+ghost use Rattle.value.specs.Covariance.{before_mark, is_exponent, is_scaled, power, scaled_as, covariance};
 
 use crate::Value;
-use crate::decimal::{is_decimal, places};
-use crate::numeral::{digits, is_digits};
+use crate::numeral::{Unsigned, is_digits};
 use crate::sign::{bare, is_minus, with_sign};
 use refusal::Kind;
 use text::class;
@@ -32,6 +31,7 @@ pub fn covariance(text: &[u8]) -> Result<Value, Kind>
 }
 
 // The same covariance checked without working out its value.
+#[tactic(auto, unfolding(crate::specs::Covariance::covariance))]
 pub fn check_covariance(text: &[u8]) -> Result<(), Kind>
     ensures { result ≡ less_value (covariance text.now) }
 {
@@ -46,16 +46,17 @@ pub fn check_covariance(text: &[u8]) -> Result<(), Kind>
 }
 
 // Whether a text without sign whose first `e` or `E` stands after so many bytes is in decimal or exponential form.
+#[tactic(auto, unfolding(crate::specs::Covariance::is_scaled))]
 fn is_scaled(text: &[u8], before: usize) -> bool
     requires { before ≡ before_mark text.now }
     ensures { result ≡ is_scaled text.now }
 {
-    let mantissa = front(text, before);
-    is_decimal(mantissa, digits(mantissa))
+    Unsigned::of(front(text, before)).is_decimal()
         & ((before == text.len()) | is_exponent(tail(tail(text, before), 1)))
 }
 
 // Whether a text is an optional sign and one to three digits.
+#[tactic(auto, unfolding(crate::specs::Covariance::is_exponent))]
 fn is_exponent(text: &[u8]) -> bool
     ensures { result ≡ is_exponent text.now }
 {
@@ -67,21 +68,9 @@ fn is_exponent(text: &[u8]) -> bool
 fn before_mark(text: &[u8]) -> usize
     ensures { result ≡ before_mark text.now }
 {
-    let mut i: usize = 0;
-    while i < text.len() {
-        if is_mark(text[i]) {
-            return i;
-        }
-        i += 1;
-    }
-    i
-}
-
-// Whether a byte is `e` or `E`.
-fn is_mark(byte: u8) -> bool
-    ensures { result ≡ is_mark byte }
-{
-    (byte == b'e') | (byte == b'E')
+    text.iter()
+        .position(|byte| matches!(*byte, b'e' | b'E'))
+        .unwrap_or(text.len())
 }
 
 // The power of ten of a covariance without sign whose first `e` or `E` stands after so many bytes.
@@ -89,10 +78,10 @@ fn power(text: &[u8], before: usize) -> i64
     requires { (before ≡ before_mark text.now) × (length text.now ≤ 20) × (is_scaled text.now ≡ true) }
     ensures { result ≡ power text.now }
 {
-    let mantissa = front(text, before);
+    let mantissa = Unsigned::of(front(text, before));
     let exponent = tail(tail(text, before), 1);
     let signed = with_sign(is_minus(exponent), number(exponent));
-    signed - places(mantissa, digits(mantissa)) as i64
+    signed - mantissa.places() as i64
 }
 
 // The whole number that the digits of a text of at most 20 bytes make, in two parts, with the sign before it and its power of ten.
@@ -102,15 +91,12 @@ fn in_parts(minus: bool, text: &[u8], power: i64) -> Value
 {
     let mut high: u64 = 0;
     let mut low: u64 = 0;
-    let mut i: usize = 0;
-    while i < text.len() {
-        let byte = text[i];
-        if class::is_of(Class::Digit, byte) {
-            let more = low * 10 + (byte - b'0') as u64;
+    for byte in text {
+        if class::is_of(Class::Digit, *byte) {
+            let more = low * 10 + u64::from(*byte - b'0');
             high = high * 10 + more / PART_BASE;
             low = more % PART_BASE;
         }
-        i += 1;
     }
     Value::Scaled(minus & ((0 < high) | (0 < low)), high, low, power)
 }

@@ -1,10 +1,16 @@
 -- `cuts::search::first_block` meets its contract.
+use Rattle.std.proofs.Common.{rules, ◌≡◌}
+use Rattle.cuts.specs.Look.{columns_of, passed_from}
 use Rattle.cuts.proofs.TailLaws.{columns_all, found_all}
 use Rattle.cuts.proofs.search.first_block.Goals as goal
 
 pub look_near-near-requires : goal.look_near-near-requires
-look_near-near-requires c = (c.requires.0, columns_all _ _ c.requires.0 _ c.requires.1)
+look_near-near-requires c =
+    let e : c.map_or.result ≡ columns_of c.args.tail = search rules in
+    (c.requires.0, columns_all _ _ c.requires.0 _ _ c.requires.1 e)
 
 pub returns : goal.returns
 returns c =
-    found_all _ _ c.requires.0 _ _ _ _ _ c.look_near-near.ensures c.look_far-far.ensures c.pass_on-passed.ensures c.tail_of.ensures c.best_of.ensures
+    let e : c.map_or-to.result ≡ passed_from c.args.runs.now c.pass_on-passed.result = search rules in
+    found_all _ _ c.requires.0 _ _ _ _ _ _ c.look_near-near.ensures e c.look_far-far.ensures c.pass_on-passed.ensures
+    c.tail_of.ensures c.best_of.ensures

@@ -1,13 +1,15 @@
 -- `inspect::part::count` meets its contract.
-use Rattle.inspect.proofs.PartLaws.{marks_on, marks_end}
-use native.Mathlib.Omega.{arith}
+use borrow.Author.Rules.{rules}
+use lib.Dec.{eqb}
+use mathlib.Core.Path.{◌≡◌, ◌∙◌}
+use Rattle.std.specs.Prelude.{count_by}
+use Rattle.std.proofs.iter.runs.Made.{chains}
+use Rattle.std.proofs.lemmas.List.Sums.{count_by-le-length}
+use Rattle.inspect.proofs.PartLaws.{marks_counted}
 use Rattle.inspect.proofs.part.count.Goals as goal
 
-pub overflow_add-n : goal.overflow_add-n
-overflow_add-n c = omega (arith, c.one_if-n.ensures.1)
-
-pub loop-i-preserved : goal.loop-i-preserved
-loop-i-preserved c = (omega arith, omega (arith, c.one_if-n.ensures.1), marks_on _ _ _ _ c.loop-i.invariant.2 c.loop-i-test.true _ c.one_if-n.ensures.0)
-
 pub returns : goal.returns
-returns c = (marks_end _ _ _ _ c.loop-i.invariant.2 c.loop-i-test.false, omega arith)
+returns c =
+    let text = c.args.text.now in
+    let counted : c.count.result ≡ count_by (λ byte. eqb byte c.args.mark) text = search (rules, chains) in
+    (counted ∙ marks_counted c.args.mark text, rw counted (count_by-le-length (λ byte. eqb byte c.args.mark) text))

@@ -13,37 +13,23 @@ pub loop-k-init : goal.loop-k-init
 loop-k-init c =
     let args = c.args in
     let pre = c.requires in
-    (omega arith, line_begin name_of args.columns.now pre.0.some pre.1)
+    (line_begin name_of args.columns.now pre.0.some pre.1)
 
-pub slice_bounds-write_name-count : goal.slice_bounds-write_name-count
-slice_bounds-write_name-count c =
+pub write_name-at-requires : goal.write_name-at-requires
+write_name-at-requires c =
     let args = c.args in
     let loop-test = c.loop-k-test in
     let loop = c.loop-k in
-    omega (arith, line_room name_of args.columns.now loop-test.true loop.invariant.1)
-
-pub slice_bounds-write_name-start : goal.slice_bounds-write_name-start
-slice_bounds-write_name-start c =
-    let args = c.args in
-    let loop-test = c.loop-k-test in
-    let loop = c.loop-k in
-    omega (arith, line_room name_of args.columns.now loop-test.true loop.invariant.1)
-
-pub write_name-written-requires : goal.write_name-written-requires
-write_name-written-requires c =
-    let args = c.args in
-    let loop-test = c.loop-k-test in
-    let loop = c.loop-k in
-    line_fits name_of args.columns.now loop-test.true loop.invariant.1
+    line_fits name_of args.columns.now loop-test.true loop.invariant
 
 pub overflow_add-at : goal.overflow_add-at
 overflow_add-at c =
-    let write-name = c.write_name-written in
+    let write-name = c.write_name-at in
     let args = c.args in
     let loop = c.loop-k in
     let end_of_lem = c.end_of-end in
     let loop-test = c.loop-k-test in
-    omega (arith, write-name.ensures.answer_is, length-append (name_of (get_or args.columns.now loop.k 0)) (end_of_lem.result ∷ []), line_room name_of args.columns.now loop-test.true loop.invariant.1, write_length loop.invariant.1)
+    omega (arith, write-name.ensures.answer_is, length-append (name_of (get_or args.columns.now loop.k 0)) (end_of_lem.result ∷ []), line_room name_of args.columns.now loop-test.true loop.invariant, write_length loop.invariant)
 
 pub loop-k-preserved : goal.loop-k-preserved
 loop-k-preserved c =
@@ -51,13 +37,10 @@ loop-k-preserved c =
     let loop-test = c.loop-k-test in
     let end_of_lem = c.end_of-end in
     let loop = c.loop-k in
-    let write-name = c.write_name-written in
-    (omega arith, write_next _ _ (line_turn name_of args.columns.now loop-test.true end_of_lem.ensures loop.invariant.1) write-name.ensures)
-
-pub shape_of-output : goal.shape_of-output
-shape_of-output c = write_length c.loop-k.invariant.1
+    let write-name = c.write_name-at in
+    (write_next _ _ (line_turn name_of args.columns.now loop-test.true end_of_lem.ensures loop.invariant) write-name.ensures)
 
 pub returns : goal.returns
 returns c =
     let args = c.args in
-    line_end name_of args.columns.now c.loop-k-test.false c.loop-k.invariant.1
+    line_end name_of args.columns.now c.loop-k-test.false c.loop-k.invariant

@@ -1,13 +1,12 @@
 -- `pack::line::write_row` meets its contract. The invariant: the first k values are written.
 use Prim.Native.Nat.{◌<◌, ◌^◌}
 use mathlib.Core.Path.{◌≡◌, ◌∙◌}
-use mathlib.Core.List.{[], ◌∷◌}
 use native.Mathlib.Omega.{arith}
-use lib.ListN.{length, get_or, length-append}
+use lib.ListN.{length, get_or}
 use Rattle.pack.specs.Inner.{value_in}
 use Rattle.pack.proofs.IndexLaws.{value_is}
-use Rattle.pack.proofs.WritingLaws.{write_length, write_next}
-use Rattle.pack.proofs.FieldLaws.{line_begin, line_turn, line_room, line_fits, line_end}
+use Rattle.pack.proofs.WritingLaws.{write_next}
+use Rattle.pack.proofs.FieldLaws.{line_begin, line_turn, line_fits, line_end}
 use Rattle.pack.proofs.line.write_row.Goals as goal
 use Rattle.pack.proofs.line.write_row.Goals.{After-value_of-value, Start}
 
@@ -29,41 +28,14 @@ pub loop-k-init : goal.loop-k-init
 loop-k-init c =
     let args = c.args in
     let pre = c.requires in
-    (omega arith, line_begin (value_in args.report.now args.row) args.columns.now pre.columns_are.some pre.room)
+    (line_begin (value_in args.report.now args.row) args.columns.now pre.columns_are.some pre.room)
 
-pub slice_bounds-write_field-count : goal.slice_bounds-write_field-count
-slice_bounds-write_field-count c =
+pub write_field-at-requires : goal.write_field-at-requires
+write_field-at-requires c =
     let args = c.args in
     let loop-test = c.loop-k-test in
     let loop = c.loop-k in
-    omega (arith, line_room (value_in args.report.now args.row) args.columns.now loop-test.true loop.invariant.1)
-
-pub slice_bounds-write_field-start : goal.slice_bounds-write_field-start
-slice_bounds-write_field-start c =
-    let args = c.args in
-    let loop-test = c.loop-k-test in
-    let loop = c.loop-k in
-    omega (arith, line_room (value_in args.report.now args.row) args.columns.now loop-test.true loop.invariant.1)
-
-pub write_field-written-requires : goal.write_field-written-requires
-write_field-written-requires c =
-    let args = c.args in
-    let loop-test = c.loop-k-test in
-    let loop = c.loop-k in
-    rw (value_read (goal.at.write_field-written-requires c).After-value_of-value) (line_fits (value_in args.report.now args.row) args.columns.now loop-test.true loop.invariant.1)
-
-pub overflow_add-at : goal.overflow_add-at
-overflow_add-at c =
-    let read = value_read (goal.at.overflow_add-at c).After-value_of-value in
-    let write-field = c.write_field-written in
-    let args = c.args in
-    let loop = c.loop-k in
-    let end_of_lem = c.end_of-end in
-    let loop-test = c.loop-k-test in
-    let start = c in
-    let value = value_in args.report.now args.row in
-    omega
-    (arith, output-fits (goal.at.overflow_add-at c).Start, (rw read at write-field.ensures).answer_is, length-append (value (get_or args.columns.now loop.k 0)) (end_of_lem.result ∷ []), line_room value args.columns.now loop-test.true loop.invariant.1, write_length loop.invariant.1)
+    rw (value_read (goal.at.write_field-at-requires c).After-value_of-value) (line_fits (value_in args.report.now args.row) args.columns.now loop-test.true loop.invariant)
 
 pub loop-k-preserved : goal.loop-k-preserved
 loop-k-preserved c =
@@ -72,13 +44,10 @@ loop-k-preserved c =
     let end_of_lem = c.end_of-end in
     let loop = c.loop-k in
     let read = value_read (goal.at.loop-k-preserved c).After-value_of-value in
-    let write-field = c.write_field-written in
-    (omega arith, write_next _ _ (line_turn (value_in args.report.now args.row) args.columns.now loop-test.true end_of_lem.ensures loop.invariant.1) (rw read at write-field.ensures))
-
-pub shape_of-output : goal.shape_of-output
-shape_of-output c = write_length c.loop-k.invariant.1
+    let write-field = c.write_field-at in
+    (write_next _ _ (line_turn (value_in args.report.now args.row) args.columns.now loop-test.true end_of_lem.ensures loop.invariant) (rw read at write-field.ensures))
 
 pub returns : goal.returns
 returns c =
     let args = c.args in
-    line_end (value_in args.report.now args.row) args.columns.now c.loop-k-test.false c.loop-k.invariant.1
+    line_end (value_in args.report.now args.row) args.columns.now c.loop-k-test.false c.loop-k.invariant

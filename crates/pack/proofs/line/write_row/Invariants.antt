@@ -1,7 +1,6 @@
 -- `pack::line::write_row` meets its contract. The invariant: the first k values are written.
-use Prim.Native.Nat.{◌≤◌, ◌-◌}
 use mathlib.Core.List.{[]}
-use lib.ListN.{length, drop, get_or}
+use lib.ListN.{drop, get_or}
 use Rattle.layout.specs.Written.{values_at}
 use Rattle.pack.specs.Inner.{observed, row_line}
 use Rattle.pack.proofs.WritingLaws.{Writing}
@@ -9,7 +8,4 @@ use Rattle.pack.proofs.FieldLaws.{line_left}
 use Rattle.pack.proofs.line.write_row.Given as goal
 
 abbrev pub invariant-loop-k : goal.invariant-loop-k
-invariant-loop-k l = (l.k ≤ length l.columns) × Writing (row_line l.report l.columns l.row) l.initial.output l.output l.at (line_left (drop l.k (values_at l.columns (get_or (observed l.report) l.row []))))
-
-abbrev pub decreases-loop-k : goal.decreases-loop-k
-decreases-loop-k l = length l.columns - l.k
+invariant-loop-k l = Writing (row_line l.report l.columns l.row) l.initial.output l.output l.at (line_left (drop l.k (values_at l.columns (get_or (observed l.report) l.row []))))

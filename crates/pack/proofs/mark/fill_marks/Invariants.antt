@@ -1,11 +1,7 @@
--- `pack::mark::fill_marks` meets its contract.
-use Prim.Native.Nat.{◌-◌}
-use lib.ListN.{length}
-use Rattle.pack.proofs.MarkLaws.{Marking}
+-- `pack::mark::fill_marks` meets its contract. The invariant: the first i rows have their marks.
+use Rattle.std.proofs.Common.{◌≡◌, ℕ, ◌<◌, get_or}
+use Rattle.pack.specs.Inner.{mark_in}
 use Rattle.pack.proofs.mark.fill_marks.Given as goal
 
 abbrev pub invariant-loop-i : goal.invariant-loop-i
-invariant-loop-i l = Marking l.sets l.marks l.i
-
-abbrev pub decreases-loop-i : goal.decreases-loop-i
-decreases-loop-i l = length l.sets - l.i
+invariant-loop-i l = (k : ℕ) → k < l.i → get_or l.marks k 0 ≡ mark_in (get_or l.sets k 0)

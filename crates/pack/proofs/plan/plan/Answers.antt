@@ -1,21 +1,16 @@
 -- `pack::plan::plan` meets its contract.
-use Rattle.pack.proofs.PlanLaws.{plan_refused, rows_ask, plan_cut}
+use Rattle.pack.proofs.PlanLaws.{rows_ask, plan_cut}
 use Rattle.pack.proofs.plan.plan.Goals as goal
-
-pub returns-in-Refused : goal.returns-in-Refused
-returns-in-Refused c =
-    let index = c.index-checked in
-    plan_refused _ index.ensures c.in-Refused.is
 
 pub cut_rows-requires : goal.cut_rows-requires
 cut_rows-requires c =
     let pre = c.requires in
-    let index = c.index-checked in
-    rows_ask pre index.ensures index.auto.sets index.auto.starts index.auto.lengths c.in-Accepted.is
+    let index = c.index in
+    rows_ask pre index.ensures index.auto.sets index.auto.starts index.auto.lengths c.in_ok-rows.was
 
-pub returns-in-Accepted : goal.returns-in-Accepted
-returns-in-Accepted c =
+pub returns : goal.returns
+returns c =
     let pre = c.requires in
-    let index = c.index-checked in
+    let index = c.index in
     let cut-rows = c.cut_rows in
-    plan_cut pre index.ensures index.auto.sets index.auto.starts index.auto.lengths c.in-Accepted.is cut-rows.ensures
+    plan_cut pre index.ensures index.auto.sets index.auto.starts index.auto.lengths c.in_ok-rows.was cut-rows.ensures

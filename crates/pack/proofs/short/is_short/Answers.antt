@@ -7,6 +7,6 @@ pub returns-then-report-le-SHORT_TEXT : goal.returns-then-report-le-SHORT_TEXT
 unfolding is_short
 returns-then-report-le-SHORT_TEXT c = rw (le-leb _ _ c.if-report-le-SHORT_TEXT.true, c.line_count.ensures)
 
-pub returns : goal.returns
+pub returns-else-report-le-SHORT_TEXT : goal.returns-else-report-le-SHORT_TEXT
 unfolding is_short
-returns c = rw (lt-leb _ _ c.if-report-le-SHORT_TEXT.false)
+returns-else-report-le-SHORT_TEXT c = rw (lt-leb _ _ c.if-report-le-SHORT_TEXT.false)

@@ -1,24 +1,15 @@
--- `pack::short::line_count` meets its contract. The invariant: the LFs passed and the LFs left are those of the report.
-use native.Mathlib.Omega.{arith}
-use Rattle.pack.proofs.RowCounts.{feeds_next, feeds_end}
+-- `pack::short::line_count` meets its contract.
+use mathlib.Core.Path.{◌≡◌, refl, sym, ◌∙◌}
+use borrow.Author.Rules.{rules}
+use lib.Dec.{eqb}
+use Rattle.std.specs.Prelude.{count_by}
+use Rattle.std.proofs.lemmas.List.Recursion.{is_count_by}
+use Rattle.text.specs.Lines.{line_feed}
+use Rattle.pack.specs.Inner.{feeds}
 use Rattle.pack.proofs.short.line_count.Goals as goal
 
-pub loop-i-init : goal.loop-i-init
-loop-i-init c = (omega arith, omega arith, omega arith)
-
-pub overflow_add-n : goal.overflow_add-n
-overflow_add-n c =
-    let loop = c.loop-i in
-    omega (arith, c.line_end-n.ensures.1, loop.invariant.1)
-
-pub loop-i-preserved : goal.loop-i-preserved
-loop-i-preserved c =
-    let loop = c.loop-i in
-    let args = c.args in
-    let loop-test = c.loop-i-test in
-    (omega arith, omega (arith, c.line_end-n.ensures.1, loop.invariant.1), omega (arith, c.line_end-n.ensures.0, feeds_next args.report.now loop.i loop-test.true, loop.invariant.2))
-
 pub returns : goal.returns
+unfolding feeds
 returns c =
-    let args = c.args in
-    omega (arith, feeds_end args.report.now c.loop-i.i c.loop-i-test.false, c.loop-i.invariant.2)
+    let counted : c.count.result ≡ count_by (λ byte. eqb byte line_feed) c.args.report.now = search rules in
+    counted ∙ sym (is_count_by feeds (λ byte. eqb byte line_feed) refl (λ byte text. refl) c.args.report.now)

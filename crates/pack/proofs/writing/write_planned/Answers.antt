@@ -1,33 +1,20 @@
 -- `pack::writing::write_planned` meets its contract.
-use mathlib.Core.Path.{ap, sym, ◌∙◌}
-use lib.Seq.{length-take-le}
-use Rattle.pack.specs.Promise.{written_paper}
-use Rattle.pack.proofs.PromiseLaws.{answer_refused, plan_asks, plan_written}
+use Rattle.pack.proofs.PromiseLaws.{not_same, are_same, cuts_differ, too_short, plan_asks, plan_written}
 use Rattle.pack.proofs.writing.write_planned.Goals as goal
 
-pub slice_bounds-same-end : goal.slice_bounds-same-end
-slice_bounds-same-end c =
-    let pre = c.requires in
-    sym (length-take-le _ _ pre.within)
+pub returns-then-ne : goal.returns-then-ne
+returns-then-ne c =
+    rw c.of_request.ensures (cuts_differ c.requires c.args.cuts.now c.args.output.now (not_same _ _ _ c.ne.ensures c.if-ne.true))
 
-pub returns-in-Refused : goal.returns-in-Refused
-returns-in-Refused c =
-    let pre = c.requires in
-    let same = c.same-right in
-    let answer-of = c.answer_of-answer in
-    answer_refused pre _ _ _ same.ensures (sym (ap written_paper c.in-Refused.is) ∙ answer-of.ensures)
-
-pub returns-in-Length : goal.returns-in-Length
-returns-in-Length c =
-    let pre = c.requires in
-    let same = c.same-right in
-    let answer-of = c.answer_of-answer in
-    let write-blocks = c.write_blocks in
-    plan_written pre _ _ _ same.ensures (sym (ap written_paper c.in-Length.is) ∙ answer-of.ensures) write-blocks.ensures
+pub returns-then-output-plan : goal.returns-then-output-plan
+returns-then-output-plan c =
+    rw c.of_request-then-output-plan.ensures
+    (too_short c.requires c.args.cuts.now c.args.output.now (are_same _ _ _ c.ne.ensures c.if-ne.false) c.if-output-plan.true)
 
 pub write_blocks-requires : goal.write_blocks-requires
 write_blocks-requires c =
-    let pre = c.requires in
-    let same = c.same-right in
-    let answer-of = c.answer_of-answer in
-    plan_asks pre _ _ _ same.ensures (sym (ap written_paper c.in-Length.is) ∙ answer-of.ensures)
+    plan_asks c.requires c.args.cuts.now c.args.output.now (are_same _ _ _ c.ne.ensures c.if-ne.false) c.if-output-plan.false
+
+pub returns : goal.returns
+returns c =
+    plan_written c.requires c.args.cuts.now c.args.output.now (are_same _ _ _ c.ne.ensures c.if-ne.false) c.if-output-plan.false c.write_blocks.ensures

@@ -1,41 +1,49 @@
-use mathlib.Core.Path.{sym, ◌∙◌}
+use mathlib.Core.Path.{◌≡◌, sym, ◌∙◌}
 use native.Mathlib.Omega.{arith}
+use Rattle.std.proofs.lemmas.Bool.{not-true, not-false}
 use Rattle.std.proofs.lemmas.Result.{err_from_is_err_and}
-use Rattle.report.proofs.LineSteps.{line_byte, line_hash, line_open, line_closed, line_other}
+use Rattle.report.specs.Report.{is_hash}
+use Rattle.report.specs.Inner.{between}
+use Rattle.report.proofs.LineSteps.{hash_is, line_byte, line_hash, line_open, line_closed, line_other}
 use Rattle.report.proofs.line.take_line.Goals as goal
+use Rattle.report.proofs.line.take_line.Goals.{After-starts_with}
 
-pub returns-then-not-printable : goal.returns-then-not-printable
-returns-then-not-printable c = line_byte (sym c.if-not-printable.true ∙ c.requires.1)
+-- Whether the line starts with `#`.
+hash : (c : After-starts_with) → c.starts_with.result ≡ is_hash (between c.args.report.now c.args.line.from c.args.line.till)
+hash c = c.starts_with.ensures.value ∙ hash_is (between c.args.report.now c.args.line.from c.args.line.till)
 
-pub returns-then-not-is_hash : goal.returns-then-not-is_hash
-returns-then-not-is_hash c =
-    line_other (sym c.if-not-printable.false ∙ c.requires.1) (sym c.if-not-is_hash.true ∙ c.is_hash.ensures) c.take_other.ensures
+pub returns-then-not-line : goal.returns-then-not-line
+returns-then-not-line c = line_byte (sym (not-true _ c.if-not-line.true) ∙ c.requires.1)
+
+pub returns-then-not-starts_with : goal.returns-then-not-starts_with
+returns-then-not-starts_with c =
+    line_other (sym (not-false _ c.if-not-line.false) ∙ c.requires.1) (sym c.if-not-starts_with.true ∙ hash (goal.at.returns-then-not-starts_with c).After-starts_with) c.take_other.ensures
 
 pub returns-then-not-same : goal.returns-then-not-same
 returns-then-not-same c =
-    line_hash (sym c.if-not-printable.false ∙ c.requires.1) (sym c.if-not-is_hash.false ∙ c.is_hash.ensures) (sym c.if-not-same.true ∙ c.same.ensures)
+    line_hash (sym (not-false _ c.if-not-line.false) ∙ c.requires.1) (sym c.if-not-starts_with.false ∙ hash (goal.at.returns-then-not-same c).After-starts_with) (sym c.if-not-same.true ∙ c.same.ensures)
 
 pub returns-in_err-opened : goal.returns-in_err-opened
 returns-in_err-opened c =
-    let printable = sym c.if-not-printable.false ∙ c.requires.1 in
-    let hash = sym c.if-not-is_hash.false ∙ c.is_hash.ensures in
+    let printable = sym (not-false _ c.if-not-line.false) ∙ c.requires.1 in
+    let start = sym c.if-not-starts_with.false ∙ hash (goal.at.returns-in_err-opened c).After-starts_with in
     let p = err_from_is_err_and c.from_residual.result c.from_residual.ensures.1 in
-    rw (p.1, p.2) (line_closed printable hash (sym c.if-not-same.false ∙ c.same.ensures) c.opened.ensures c.in_err-opened.was)
+    rw (p.1, p.2) (line_closed printable start (sym c.if-not-same.false ∙ c.same.ensures) c.opened.ensures c.in_err-opened.was)
 
-pub slice_bounds-line-count : goal.slice_bounds-line-count
-slice_bounds-line-count c = omega (arith, c.requires.0.order)
+pub slice_bounds-text-count : goal.slice_bounds-text-count
+slice_bounds-text-count c = omega (arith, c.requires.0.lies.order)
 
-pub slice_bounds-line-start : goal.slice_bounds-line-start
-slice_bounds-line-start c = c.requires.0.order
+pub slice_bounds-text-start : goal.slice_bounds-text-start
+slice_bounds-text-start c = c.requires.0.lies.order
 
-pub slice_bounds-line-end : goal.slice_bounds-line-end
-slice_bounds-line-end c = omega (arith, c.requires.0.in_text)
+pub slice_bounds-text-end : goal.slice_bounds-text-end
+slice_bounds-text-end c = omega (arith, c.requires.0.lies.in_text)
 
 pub take_other-requires : goal.take_other-requires
 take_other-requires c = c.requires.0
 
 pub returns : goal.returns
 returns c =
-    let printable = sym c.if-not-printable.false ∙ c.requires.1 in
-    let hash = sym c.if-not-is_hash.false ∙ c.is_hash.ensures in
-    line_open printable hash (sym c.if-not-same.false ∙ c.same.ensures) c.opened.ensures c.in_ok-opened.was
+    let printable = sym (not-false _ c.if-not-line.false) ∙ c.requires.1 in
+    let start = sym c.if-not-starts_with.false ∙ hash (goal.at.returns c).After-starts_with in
+    line_open printable start (sym c.if-not-same.false ∙ c.same.ensures) c.opened.ensures c.in_ok-opened.was

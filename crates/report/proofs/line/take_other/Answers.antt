@@ -11,18 +11,18 @@ pub returns-in-Version : goal.returns-in-Version
 returns-in-Version c = line_bad (due_version _ _ _ _ c.in-Version.is)
 
 pub slice_bounds-name_columns-count : goal.slice_bounds-name_columns-count
-slice_bounds-name_columns-count c = omega (arith, c.requires.order)
+slice_bounds-name_columns-count c = omega (arith, c.requires.lies.order)
 
 pub slice_bounds-name_columns-start : goal.slice_bounds-name_columns-start
-slice_bounds-name_columns-start c = c.requires.order
+slice_bounds-name_columns-start c = c.requires.lies.order
 
 pub slice_bounds-name_columns-end : goal.slice_bounds-name_columns-end
-slice_bounds-name_columns-end c = omega (arith, c.requires.in_text)
+slice_bounds-name_columns-end c = omega (arith, c.requires.lies.in_text)
 
 pub name_columns-requires : goal.name_columns-requires
 name_columns-requires c =
     let args = c.args in
-    (c.requires.parts_are, omega (arith, c.requires.short, length-take (args.till - args.from) (drop args.from args.report.now)), c.requires.wide)
+    (c.requires.lies.parts_are, omega (arith, c.requires.lies.short, length-take (args.line.till - args.line.from) (drop args.line.from args.report.now)), c.requires.wide)
 
 pub returns-in_ok-named-in-Columns : goal.returns-in_ok-named-in-Columns
 returns-in_ok-named-in-Columns c = line_columns c.in-Columns.is c.name_columns.ensures c.in_ok-named-in-Columns.was

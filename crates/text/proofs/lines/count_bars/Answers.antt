@@ -5,8 +5,8 @@ use Rattle.text.proofs.lines.count_bars.Goals as goal
 pub overflow_add-count : goal.overflow_add-count
 overflow_add-count c = omega (arith, c.bars-count.ensures.1)
 
-pub loop-i-preserved : goal.loop-i-preserved
-loop-i-preserved c = (omega arith, omega (arith, c.bars-count.ensures.1), omega (arith, c.bars-count.ensures.0, bars_on c.args.text.now c.loop-i.i c.loop-i-test.true))
+pub loop-byte-preserved : goal.loop-byte-preserved
+loop-byte-preserved c = (omega arith, omega (arith, c.bars-count.ensures.1), omega (arith, c.bars-count.ensures.0, bars_on c.args.text.now c.loop-byte.byte-index c.loop-byte-test.true))
 
 pub returns : goal.returns
-returns c = (omega (arith, bars_end c.args.text.now c.loop-i.i c.loop-i-test.false), omega arith)
+returns c = (omega (arith, bars_end c.args.text.now c.loop-byte.byte-index c.loop-byte-test.false), omega arith)

@@ -1,15 +1,16 @@
-use Rattle.text.proofs.LineLaws.{trail_start, trail_on, trail_here, trail_end}
-use borrow.Author.Rules.{rules}
+use Prim.Native.Nat.{◌-◌}
+use mathlib.Core.Path.{◌∙◌, ap, sym}
+use native.Mathlib.Omega.{arith}
+use lib.ListN.{length, length-take}
+use Rattle.text.proofs.LineLaws.{trail_start, trail_on, trail_here}
 use Rattle.text.proofs.lines.kept.Goals as goal
 
-pub loop-end-init : goal.loop-end-init
-loop-end-init c = (search rules, trail_start c.args.text.now)
+pub loop-left-preserved : goal.loop-left-preserved
+loop-left-preserved c =
+    let left = c.loop-left.left.now in
+    (omega (arith, length-take (length left - 1) left), c.loop-left.invariant.1 ∙ trail_on left (length left) (trail_start left) c.in-32.len_at_least (omega arith) (omega arith))
 
-pub returns-then-text-end-ne32 : goal.returns-then-text-end-ne32
-returns-then-text-end-ne32 c = (trail_here _ _ c.loop-end.invariant.1 c.loop-end-test.true c.loop-end.invariant.0 c.if-text-end-ne32.true, search rules)
-
-pub loop-end-preserved : goal.loop-end-preserved
-loop-end-preserved c = (search rules, trail_on _ _ c.loop-end.invariant.1 c.loop-end-test.true c.loop-end.invariant.0 c.if-text-end-ne32.false)
-
-pub returns : goal.returns
-returns c = (trail_end _ _ c.loop-end.invariant.1 c.loop-end-test.false, search rules)
+pub returns-in_default-2 : goal.returns-in_default-2
+returns-in_default-2 c =
+    let left = c.loop-left.left.now in
+    (trail_here left (length left) (trail_start left) c.in_default.len_at_least (omega arith) (omega arith) ∙ ap length (sym c.loop-left.invariant.1), c.loop-left.invariant.0)

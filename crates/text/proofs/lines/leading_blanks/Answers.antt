@@ -1,13 +1,11 @@
-use native.Mathlib.Omega.{arith}
-use Rattle.text.proofs.LineLaws.{blanks_on, blanks_here, blanks_end}
-use borrow.Author.Rules.{rules}
+-- `text::lines::leading_blanks` meets its contract.
+use Rattle.std.proofs.Common.{rules}
+use Rattle.std.proofs.lemmas.Iterator.{YieldsList-from_slice}
+use Rattle.std.proofs.lemmas.Iterator.Consumers.{count_from_yields_List}
+use Rattle.std.proofs.lemmas.Iterator.Search.{YieldsList-from_take_while}
+use Rattle.text.proofs.Chains.{blanks_is}
 use Rattle.text.proofs.lines.leading_blanks.Goals as goal
 
-pub returns-then-text-i-ne32 : goal.returns-then-text-i-ne32
-returns-then-text-i-ne32 c = (blanks_here _ _ c.loop-i.invariant.1 c.loop-i-test.true c.if-text-i-ne32.true, search rules)
-
-pub loop-i-preserved : goal.loop-i-preserved
-loop-i-preserved c = (omega arith, blanks_on _ _ c.loop-i.invariant.1 c.loop-i-test.true c.if-text-i-ne32.false)
-
 pub returns : goal.returns
-returns c = (blanks_end _ _ c.loop-i.invariant.1 c.loop-i-test.false, search rules)
+returns c = blanks_is _ (count_from_yields_List _ _ c.count.ensures.ran
+    (YieldsList-from_take_while _ _ (YieldsList-from_slice c.args.text.now (cc)) c.take_while.ensures.closure c.take_while.ensures.done (λ x b q k. search rules)))

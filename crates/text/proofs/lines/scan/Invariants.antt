@@ -1,11 +1,10 @@
-use Prim.Native.Nat.{◌-◌}
-use mathlib.Core.Bool.{true}
+-- `text::lines::scan` meets its contract. The bytes passed are printable.
 use lib.ListN.{length}
-use Rattle.text.specs.Steps.{Scanning}
+use Rattle.text.proofs.LineLaws.{Stepping}
 use Rattle.text.proofs.lines.scan.Given as goal
 
-abbrev pub invariant-loop-i : goal.invariant-loop-i
-invariant-loop-i l = Scanning l.text true l.fields l.i
+abbrev pub invariant-loop-step : goal.invariant-loop-step
+invariant-loop-step l = Stepping l.text l.left l.fields
 
-abbrev pub decreases-loop-i : goal.decreases-loop-i
-decreases-loop-i l = length l.text - l.i
+abbrev pub decreases-loop-step : goal.decreases-loop-step
+decreases-loop-step l = length l.left

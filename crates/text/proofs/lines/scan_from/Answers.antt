@@ -1,19 +1,26 @@
 -- `text::lines::scan_from` meets its contract.
-use mathlib.Core.Path.{sym, ◌∙◌}
-use Rattle.text.proofs.LineLaws.{scan_here, scan_on, scan_plain, scan_end}
+use Prim.Native.Nat.{◌+◌}
+use mathlib.Core.Path.{◌≡◌, ◌∙◌, sym}
+use native.Mathlib.Omega.{arith}
+use Rattle.text.proofs.LineLaws.{rest_at, rest_in, scan_here, scan_on, scan_plain}
 use Rattle.text.proofs.lines.scan_from.Goals as goal
 
-pub loop-i-init : goal.loop-i-init
-loop-i-init c = c.requires
-
 pub loop-i-preserved-then-is_plain : goal.loop-i-preserved-then-is_plain
-loop-i-preserved-then-is_plain c = scan_plain _ _ _ _ c.loop-i.invariant c.loop-i-test.true (sym c.is_plain.ensures ∙ c.if-is_plain.true)
+loop-i-preserved-then-is_plain c =
+    let s = c.args.text.now in let from = c.args.from in let i = c.loop-i.i in
+    let on : from + (i + 1) ≡ from + i + 1 = omega arith in
+    let byte = rest_at s from i c.requires.within c.loop-i-test.true in
+    rw on (scan_plain s _ _ (from + i) c.loop-i.invariant (rest_in s from i c.requires.within c.loop-i-test.true) (rw byte at (sym c.is_plain.ensures ∙ c.if-is_plain.true)))
 
-pub returns-then-b-eq10 : goal.returns-then-b-eq10
-returns-then-b-eq10 c = scan_here _ _ _ _ c.loop-i.invariant c.loop-i-test.true c.if-b-eq10.true
+pub returns-then-byte-eq10 : goal.returns-then-byte-eq10
+returns-then-byte-eq10 c =
+    let s = c.args.text.now in let from = c.args.from in let i = c.loop-i.i in
+    let byte = rest_at s from i c.requires.within c.loop-i-test.true in
+    scan_here s _ _ (from + i) c.loop-i.invariant (rest_in s from i c.requires.within c.loop-i-test.true) (sym byte ∙ c.if-byte-eq10.true)
 
 pub loop-i-preserved : goal.loop-i-preserved
-loop-i-preserved c = scan_on _ _ _ _ c.loop-i.invariant c.loop-i-test.true c.if-b-eq10.false _ c.is_printable-printable.ensures _ c.bars-fields.ensures.0
-
-pub returns : goal.returns
-returns c = scan_end _ _ _ _ c.loop-i.invariant c.loop-i-test.false
+loop-i-preserved c =
+    let s = c.args.text.now in let from = c.args.from in let i = c.loop-i.i in
+    let on : from + (i + 1) ≡ from + i + 1 = omega arith in
+    let byte = rest_at s from i c.requires.within c.loop-i-test.true in
+    rw on (scan_on s _ _ (from + i) c.loop-i.invariant (rest_in s from i c.requires.within c.loop-i-test.true) (rw byte at c.if-byte-eq10.false) _ (rw byte at c.is_printable-printable.ensures) _ (rw byte at c.bars-fields.ensures.0))

@@ -11,56 +11,47 @@ use Rattle.value.proofs.covariance.in_parts.Goals.{then-is_of, else-is_of}
 use Rattle.value.proofs.covariance.in_parts.Goals.{Then-is_of}
 
 -- There is room for a digit more.
-room : (c : Then-is_of) → c.loop-i.high < 10000000000
+room : (c : Then-is_of) → c.loop-byte.high < 10000000000
 room c =
     let start = c in
-    let loop = c.loop-i in
-    parts_room start.args.text.now loop.high loop.low loop.i loop.invariant c.loop-i-test.true start.requires
+    let loop = c.loop-byte in
+    parts_room start.args.text.now loop.high loop.low loop.byte-index loop.invariant c.loop-byte-test.true start.requires
 
 -- The byte is a digit.
 digit : (c : Then-is_of)
-    → (48 ≤ get_or c.args.text.now c.loop-i.i 0)
-    × (get_or c.args.text.now c.loop-i.i 0 ≤ 57)
+    → (48 ≤ get_or c.args.text.now c.loop-byte.byte-index 0)
+    × (get_or c.args.text.now c.loop-byte.byte-index 0 ≤ 57)
 digit c = digit_range _ (sym c.is_of.ensures ∙ c.if-is_of.true)
 
-pub loop-i-init : goal.loop-i-init
-loop-i-init c = parts_none _
+pub loop-byte-init : goal.loop-byte-init
+loop-byte-init c = parts_none _
 
 pub overflow_mul-more : goal.overflow_mul-more
-overflow_mul-more c = record { fits = omega (arith, c.loop-i.invariant.low_below) }
-
-pub overflow_sub-more : goal.overflow_sub-more
-overflow_sub-more c = (digit (goal.at.overflow_sub-more c).Then-is_of).0
-
-pub overflow_cast-more : goal.overflow_cast-more
-overflow_cast-more c = record { fits = omega (arith, (digit (goal.at.overflow_cast-more c).Then-is_of).1) }
+overflow_mul-more c = record { fits = omega (arith, c.loop-byte.invariant.low_below) }
 
 pub overflow_add-more : goal.overflow_add-more
 overflow_add-more c =
-    record { fits = omega (arith, c.loop-i.invariant.low_below, (digit (goal.at.overflow_add-more c).Then-is_of).1) }
+    record { fits = omega (arith, c.loop-byte.invariant.low_below, (digit (goal.at.overflow_add-more c).Then-is_of).1) }
 
 pub overflow_mul-high : goal.overflow_mul-high
 overflow_mul-high c = record { fits = omega (arith, room (goal.at.overflow_mul-high c).Then-is_of) }
 
 pub overflow_add-high : goal.overflow_add-high
 overflow_add-high c =
-    record { fits = omega (arith, room (goal.at.overflow_add-high c).Then-is_of, c.loop-i.invariant.low_below, (digit (goal.at.overflow_add-high c).Then-is_of).1) }
+    record { fits = omega (arith, room (goal.at.overflow_add-high c).Then-is_of, c.loop-byte.invariant.low_below, (digit (goal.at.overflow_add-high c).Then-is_of).1) }
 
 pub returns : goal.returns
 returns c =
     let start = c in
-    let loop = c.loop-i in
-    rw (to_z-of_z start.ranges.power) (parts_all start.args.text.now loop.high loop.low loop.i start.args.minus start.args.power loop.invariant c.loop-i-test.false)
+    let loop = c.loop-byte in
+    rw (to_z-of_z start.ranges.power) (parts_all start.args.text.now loop.high loop.low loop.byte-index start.args.minus start.args.power loop.invariant c.loop-byte-test.false)
 
-pub loop-i-preserved : goal.loop-i-preserved
-loop-i-preserved c =
-    let args = c.args in
-    let loop = c.loop-i in
-    let loop-test = c.loop-i-test in
-    let s = args.text.now in
+pub loop-byte-preserved : goal.loop-byte-preserved
+loop-byte-preserved c =
+    let loop = c.loop-byte in
+    let loop-test = c.loop-byte-test in
+    let s = c.args.text.now in
     elim c.if-is_of.branch [
-      | then-is_of w ↦
-          rw (w.high-is, w.low-is) (parts_digit s loop.high loop.low loop.i loop.invariant loop-test.true (sym c.is_of.ensures ∙ w.if-is_of.true))
-      | else-is_of w ↦
-          rw (w.high-is, w.low-is) (parts_other s loop.high loop.low loop.i loop.invariant loop-test.true (sym c.is_of.ensures ∙ w.if-is_of.false))
+      | then-is_of w ↦ rw (w.high-is, w.low-is, w.from.ensures) (parts_digit s loop.high loop.low loop.byte-index loop.invariant loop-test.true (sym c.is_of.ensures ∙ w.if-is_of.true))
+      | else-is_of w ↦ rw (w.high-is, w.low-is) (parts_other s loop.high loop.low loop.byte-index loop.invariant loop-test.true (sym c.is_of.ensures ∙ w.if-is_of.false))
     ]

@@ -23,7 +23,7 @@ worked c =
     let tails = after-number.tail-exponent.ensures ∙ ap (drop 1) after-number.tail.ensures in
     power_is start.args.text.now c.with_sign-signed.result c.places.result start.requires.1 start.requires.2
     (c.with_sign-signed.ensures ∙ rw (after-number.is_minus.ensures, after-number.number.ensures, tails, start.requires.0))
-    (c.places.ensures ∙ ap places (after-number.front-mantissa.ensures ∙ ap (λ (n : ℕ). take n start.args.text.now) start.requires.0))
+    (c.places.ensures ∙ ap places (after-number.of-mantissa.ensures ∙ after-number.front.ensures ∙ ap (λ (n : ℕ). take n start.args.text.now) start.requires.0))
 
 -- The numbers of the code are these.
 exponent-back : (c : After-places) → to_z w64 (of_z w64 c.with_sign-signed.result) ≡ c.with_sign-signed.result

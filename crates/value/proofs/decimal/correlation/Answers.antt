@@ -12,7 +12,7 @@ pub is_unit-requires : goal.is_unit-requires
 is_unit-requires c =
     let text = c.args.text.now in
     let right = found_decimal text 13 true c.in_ok-check_decimal.ensures in
-    rw c.bare-rest.ensures (narrow 13 (bare true text) right.0)
+    rw (c.of.ensures, c.bare-rest.ensures) (narrow 13 (bare true text) right.0)
 
 pub value_of-requires : goal.value_of-requires
 value_of-requires c =
@@ -25,14 +25,14 @@ unfolding decimal_in correlation
 returns-then-is_unit c =
     let bare-call = c.bare-rest in
     let right = found_decimal c.args.text.now 13 true c.in_ok-check_decimal.ensures in
-    let unit = rw bare-call.ensures at (sym c.is_unit.ensures ∙ c.if-is_unit.true) in
+    let unit = rw (c.of.ensures, bare-call.ensures) at (sym c.is_unit.ensures ∙ c.if-is_unit.true) in
     rw (c.value_of.ensures, bare-call.ensures, right.0, right.1, unit)
 
 pub returns : goal.returns
 unfolding decimal_in correlation
 returns c =
     let right = found_decimal c.args.text.now 13 true c.in_ok-check_decimal.ensures in
-    let unit = rw c.bare-rest.ensures at (sym c.is_unit.ensures ∙ c.if-is_unit.false) in
+    let unit = rw (c.of.ensures, c.bare-rest.ensures) at (sym c.is_unit.ensures ∙ c.if-is_unit.false) in
     rw (right.0, right.1, unit)
 
 pub returns-in_err-check_decimal : goal.returns-in_err-check_decimal

@@ -12,11 +12,11 @@ use Rattle.value.proofs.decimal.value_of.Goals as goal
 pub with_sign-requires : goal.with_sign-requires
 with_sign-requires c =
     let rest = c.args.rest.now in
-    omega (arith, c.number-whole.ensures, number_small (take 18 rest) 18 (take_below 18 rest))
+    omega (arith, c.number.ensures, number_small (take 18 rest) 18 (take_below 18 rest))
 
 pub returns : goal.returns
 returns c =
-    let n = c.number-whole.ensures ∙ number_front c.args.rest.now c.requires in
+    let n = c.number.ensures ∙ number_front c.args.rest.now c.requires in
     let signed = c.with_sign in
     let e : to_z w64 (of_z w64 signed.result) ≡ signed.result = to_z-of_z {w = w64} (record { sfits = signed.type_inv }) in
-    rw (e, signed.ensures, n, c.is_minus.ensures, c.places-count.ensures)
+    rw (e, signed.ensures, n, c.is_minus.ensures, c.places.ensures, c.of.ensures)

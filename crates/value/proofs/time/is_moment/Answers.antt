@@ -7,14 +7,8 @@ use Rattle.value.proofs.time.is_moment.Goals as goal
 pub two-requires : goal.two-requires
 two-requires c = time_two c.args.text.now 0 c.requires (omega arith) refl refl
 
-pub overflow_mul-two : goal.overflow_mul-two
-overflow_mul-two c = omega (arith, c.two.ensures.1)
-
 pub two-requires-2 : goal.two-requires-2
 two-requires-2 c = time_two c.args.text.now 2 c.requires (omega arith) refl refl
-
-pub overflow_add-two : goal.overflow_add-two
-overflow_add-two c = omega (arith, c.two.ensures.1, c.two-2.ensures.1)
 
 pub two-requires-3 : goal.two-requires-3
 two-requires-3 c = time_two c.args.text.now 5 c.requires (omega arith) refl refl
@@ -37,11 +31,11 @@ returns c =
     let two7 = c.two-7 in
     let two6 = c.two-6 in
     let two5 = c.two-5 in
-    let is-date = c.is_date in
+    let is-real = c.is_real in
     let two4 = c.two-4 in
     let two3 = c.two-3 in
     let two2 = c.two-2 in
     let two = c.two in
     let args = c.args in
     let pre = c.requires in
-    rw (c.is_clock.ensures, two7.ensures.0, two6.ensures.0, two5.ensures.0, is-date.ensures, two4.ensures.0, two3.ensures.0, two2.ensures.0, two.ensures.0, four_is args.text.now (time_two args.text.now 2 pre (omega arith) refl refl))
+    rw (c.is_clock.ensures, two7.ensures.0, two6.ensures.0, two5.ensures.0, is-real.ensures, two4.ensures.0, two3.ensures.0, two2.ensures.0, two.ensures.0, four_is args.text.now (time_two args.text.now 2 pre (omega arith) refl refl))
