@@ -13,7 +13,7 @@ use Rattle.text.proofs.Bools.{bools}
 use Rattle.element.specs.Set.{joined}
 use Rattle.element.specs.Observation.{Observation, set_of}
 use Rattle.report.specs.Report.{Outcome, accepted, refused, read, version_line, member}
-use Rattle.report.specs.Index.{Index}
+use Rattle.report.specs.declared.index.Row.{Row}
 use Rattle.cuts.specs.Cuts.{stretch}
 use Rattle.layout.specs.Written.{line_of, names_at, data_lines, columns_of, block_text, written, mark_of, Valid}
 use Rattle.layout.proofs.Accepted.{AllRight, right_take, right_drop, accepted_right}
@@ -41,7 +41,7 @@ row_at report first count i h = get_or-take count (drop first (observed report))
 rows_length : (report : List ℕ) (first count : ℕ) → first + count ≤ length (observed report) → length (rows_from report first count) ≡ count
 rows_length report first count h = simp (length-take, length-drop) (omega arith)
 
-module _ {report : List ℕ} {index : Index} {columns before : List ℕ} {first count : ℕ} (asks : RowsAsk report index columns before first count) where
+module _ {report : List ℕ} {index : List Row} {columns before : List ℕ} {first count : ℕ} (asks : RowsAsk report index columns before first count) where
   -- A row more.
   pub rows_turn : {after : List ℕ} {at i : ℕ} → i < count
       → Writing (data_lines columns (rows_from report first count)) before after at (data_lines columns (drop i (rows_from report first count)))
@@ -83,21 +83,19 @@ module _ {report : List ℕ} {index : Index} {columns before : List ℕ} {first 
 -- A block.
 
 -- The sets of the rows, as the index notes them.
-pub rows_sets : {report : List ℕ} {index : Index} (first count : ℕ) → Indexed report index → first + count ≤ length (observed report)
-    → take (first + count - first) (drop first index.sets) ≡ map set_of (rows_from report first count)
+pub rows_sets : {report : List ℕ} {index : List Row} (first count : ℕ) → Indexed report index → first + count ≤ length (observed report)
+    → map (λ (row : Row). row.present) (take count (drop first index)) ≡ map set_of (rows_from report first count)
 unfolding set_of
 rows_sets {report} {index} first count x h =
-    let e : first + count - first ≡ count = omega arith in
-    let l : length (take count (drop first index.sets)) ≡ count = simp (length-take, length-drop) (omega (arith, x.sets_room)) in
-    ap (λ (n : ℕ). take n (drop first index.sets)) e
-    ∙ ext_get_or 0 (take count (drop first index.sets)) (map set_of (rows_from report first count))
-    (l ∙ sym (length-map (rows_from report first count) set_of ∙ rows_length report first count h))
-    (λ i k. at i (omega arith))
+    let l : length (take count (drop first index)) ≡ count = simp (length-take, length-drop) (omega (arith, x.room)) in
+    ext_get_or 0 (map (λ (row : Row). row.present) (take count (drop first index))) (map set_of (rows_from report first count))
+    (length-map (take count (drop first index)) (λ (row : Row). row.present) ∙ (l ∙ sym (length-map (rows_from report first count) set_of ∙ rows_length report first count h)))
+    (λ i k. at i (omega (arith, length-map (take count (drop first index)) (λ (row : Row). row.present))))
   where
-    at : (i : ℕ) → i < count → get_or (take count (drop first index.sets)) i 0 ≡ get_or (map set_of (rows_from report first count)) i 0
+    at : (i : ℕ) → i < count → get_or (map (λ (row : Row). row.present) (take count (drop first index))) i 0 ≡ get_or (map set_of (rows_from report first count)) i 0
     at i k =
-        get_or-take count (drop first index.sets) i 0 k
-        ∙ (get_or-drop first index.sets i 0
+        get_or-map (λ (row : Row). row.present) (take count (drop first index)) i (record { present = 0; starts = []; lengths = [] })
+        ∙ (ap (λ (row : Row). row.present) (get_or-take count (drop first index) i _ k ∙ get_or-drop first index i _)
         ∙ ((x.noted (first + i) (omega arith)).set_is
         ∙ sym (get_or-map set_of (rows_from report first count) i [] ∙ ap set_of (row_at report first count i k))))
 
@@ -113,7 +111,7 @@ columns_of_lem (o ∷ os) r h =
     member_at (x ∷ l) zero h = rw (eq-eqb x x refl)
     member_at (x ∷ l) (suc k) h = or_second (eqb x (get_or l k 0)) (member (get_or l k 0) l) (member_at l k (omega arith))
 
-module _ {report : List ℕ} {index : Index} {before : List ℕ} {first count : ℕ} (asks : BlockAsks report index before first count) where
+module _ {report : List ℕ} {index : List Row} {before : List ℕ} {first count : ℕ} (asks : BlockAsks report index before first count) where
   -- There is room for the version line.
   pub version_room : length (line_of (version_line ∷ [])) ≤ length before
   unfolding block_text
@@ -121,11 +119,12 @@ module _ {report : List ℕ} {index : Index} {before : List ℕ} {first count : 
       omega (arith, asks.room, length-append (line_of (version_line ∷ [])) (line_of (names_at (columns_of (rows_from report first count))) ++ data_lines (columns_of (rows_from report first count)) (rows_from report first count)))
 
   -- The columns that are listed are those of the rows.
-  module _ {set : ℕ} {columns : List ℕ} (j : set ≡ joined 0 (take (first + count - first) (drop first index.sets))) (l : columns ≡ columns_in set) where
+  module _ {set : ℕ} {columns : List ℕ} (j : set ≡ joined 0 (map (λ (row : Row). row.present) (take (first + count - first) (drop first index)))) (l : columns ≡ columns_in set) where
     columns_are : columns ≡ columns_of (rows_from report first count)
     columns_are =
+        let all : first + count - first ≡ count = omega arith in
         l
-        ∙ (ap columns_in (j ∙ ap (joined 0) (rows_sets first count asks.indexed asks.inside))
+        ∙ (ap columns_in (j ∙ ap (joined 0) (rw all (rows_sets first count asks.indexed asks.inside)))
         ∙ columns_joined (rows_from report first count))
 
     known : Columns columns
@@ -196,7 +195,7 @@ pub record Blocks (cuts : List ℕ) (rows : List Observation) (before after : Li
   pub valid : Valid (drop k cuts) (drop first rows)
   pub writing : Writing (written cuts rows) before after at (written (drop k cuts) (drop first rows))
 
-pub blocks_begin : {report : List ℕ} {index : Index} {cuts before : List ℕ} → BlocksAsk report index cuts before
+pub blocks_begin : {report : List ℕ} {index : List Row} {cuts before : List ℕ} → BlocksAsk report index cuts before
     → Blocks cuts (observed report) before before 0 0 0
 blocks_begin {report} {index} {cuts} {before} asks = record {
   within = omega arith;
@@ -249,7 +248,7 @@ module _ {cuts : List ℕ} {rows : List Observation} {before after : List ℕ} {
     block_fits = write_fits (block_text (take count (drop first rows))) _ block_turn
 
 -- It can be written.
-pub block_asks : {report : List ℕ} {index : Index} {cuts before after : List ℕ} {at first k : ℕ} → BlocksAsk report index cuts before
+pub block_asks : {report : List ℕ} {index : List Row} {cuts before after : List ℕ} {at first k : ℕ} → BlocksAsk report index cuts before
     → Blocks cuts (observed report) before after at first k → k < length cuts → {count : ℕ} → count ≡ get_or cuts k 0
     → BlockAsks report index (take (length after - at) (drop at after)) first count
 block_asks asks b h e = record { indexed = asks.indexed; some = some_rows b h e; inside = block_inside b h e; room = block_fits b h e }

@@ -8,7 +8,8 @@ use lib.ListN.{length, take, drop, get_or}
 use Rattle.element.specs.Table.{elements}
 use Rattle.element.specs.Observation.{is_present, bit}
 use Rattle.element.proofs.Sets.{has_set}
-use Rattle.report.specs.Index.{Index, noted_value}
+use Rattle.report.specs.Index.{row_at, noted_value}
+use Rattle.report.specs.declared.index.Row.{Row}
 use Rattle.report.proofs.IndexLaws.{noted_value_lem}
 use Rattle.layout.proofs.BlockReads.{absent_is}
 use Rattle.pack.specs.Inner.{observed, Indexed, value_in}
@@ -22,29 +23,29 @@ bit_clear : (t : Bool) → (bit t ≡ 1 → ⊥) → t ≡ false
 bit_clear true h = absurd (h refl)
 bit_clear false h = refl
 
-module _ {report : List ℕ} {index : Index} (row element : ℕ) (x : Indexed report index) (inside : row < length (observed report)) where
+module _ {report : List ℕ} {index : List Row} (row element : ℕ) (x : Indexed report index) (inside : row < length (observed report)) where
   -- Bit e of a row's set says whether the row has a value of element e.
-  pub row_bit : get_or index.sets row 0 / 2 ^ element % 2 ≡ bit (is_present (value_in report row element))
+  pub row_bit : (row_at index row).present / 2 ^ element % 2 ≡ bit (is_present (value_in report row element))
   row_bit = ap (λ (s : ℕ). s / 2 ^ element % 2) (x.noted row inside).set_is ∙ has_set (get_or (observed report) row []) element
 
   -- What is read off the index is the row's value.
   pub value_is : element < elements → noted_value report index row element ≡ value_in report row element
-  value_is known = noted_value_lem (x.noted row inside) (omega (arith, x.sets_room, x.starts_room, x.lengths_room)) element known
+  value_is known = noted_value_lem index row (x.noted row inside) (omega (arith, x.room)) element known
 
   -- It has none.
-  pub value_absent : (get_or index.sets row 0 / 2 ^ element % 2 ≡ 1 → ⊥) → [] ≡ value_in report row element
+  pub value_absent : ((row_at index row).present / 2 ^ element % 2 ≡ 1 → ⊥) → [] ≡ value_in report row element
   value_absent h = sym (absent_is (value_in report row element) (bit_clear (is_present (value_in report row element)) (λ e. h (row_bit ∙ e))))
 
-  module _ (known : element < elements) (h : get_or index.sets row 0 / 2 ^ element % 2 ≡ 1) where
+  module _ (known : element < elements) (h : (row_at index row).present / 2 ^ element % 2 ≡ 1) where
     present : is_present (value_in report row element) ≡ true
     present = bit_set (is_present (value_in report row element)) (sym row_bit ∙ h)
 
     -- It has one, which is as long as the index notes.
-    pub value_long : get_or index.lengths (row * elements + element) 0 ≡ length (value_in report row element)
+    pub value_long : get_or (row_at index row).lengths element 0 ≡ length (value_in report row element)
     value_long = ((x.noted row inside).shows element known present).length_is
 
     -- And lies where the index notes.
-    pub value_there : take (get_or index.lengths (row * elements + element) 0) (drop (get_or index.starts (row * elements + element) 0) report)
+    pub value_there : take (get_or (row_at index row).lengths element 0) (drop (get_or (row_at index row).starts element 0) report)
         ≡ value_in report row element
     value_there =
         let s = (x.noted row inside).shows element known present in

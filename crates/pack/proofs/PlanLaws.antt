@@ -15,12 +15,13 @@ use Rattle.element.specs.Table.{elements}
 use Rattle.element.specs.Observation.{Observation, set_of}
 use Rattle.element.proofs.Sets.{set_radar}
 use Rattle.report.specs.Report.{accepted, read}
-use Rattle.report.specs.Index.{Index, room_in, AcceptedIs, IndexIs}
+use Rattle.report.specs.Index.{row_at, room_in, noted_bytes, sizes_in, Sized, AcceptedIs, IndexIs}
+use Rattle.report.specs.declared.index.Row.{Row}
 use Rattle.report.proofs.AnswerLaws.{accepted_of}
 use Rattle.report.proofs.Join.{read_accepted}
 use Rattle.cuts.specs.Cuts.{cost, Cuts}
 use Rattle.cuts.specs.Block.{most_rows, most_bytes, total, value_bytes, bytes_of, block_bytes}
-use Rattle.cuts.specs.Plan.{Marked, marked_bytes, ready, Planned}
+use Rattle.cuts.specs.Plan.{ShortestPromised, Marked, marked_bytes, ready, Planned}
 use Rattle.cuts.specs.declared.Plan.{Plan}
 use Rattle.layout.specs.Written.{mark_of, Valid}
 use Rattle.layout.specs.Cost.{size_of, as_marked}
@@ -28,7 +29,7 @@ use Rattle.layout.proofs.Accepted.{Right, AllRight, accepted_right, accepted_row
 use Rattle.layout.proofs.NoShorter.{Cutting, no_shorter}
 use Rattle.layout.proofs.BlockBytes.{written_bytes}
 use Rattle.layout.proofs.Packed.{rows_are, together, valid_rows, rows_valid, shortest}
-use Rattle.pack.specs.Inner.{observations_of, observed, Indexed, SizesAre, mark_in, RowsCut, RoomFor, CutIs, PlannedIs}
+use Rattle.pack.specs.Inner.{observations_of, observed, Indexed, mark_in, RowsCut, RoomFor, CutIs, PlannedIs}
 use Rattle.std.specs.Prelude.{Result, Ok}
 use Rattle.pack.proofs.BlockLaws.{rows_sets}
 use Rattle.pack.proofs.SizeLaws.{noted_size}
@@ -41,18 +42,15 @@ observed_is report e = ap observations_of e
 -- The index.
 
 -- The index notes every observation, where it has room for them.
-pub indexed : {report : List ℕ} {old now : Index} {sizes marks cuts : List ℕ} {k : ℕ} → RoomFor (length (observed report)) old sizes marks cuts
-    → AcceptedIs report 0 (room_in old.sets old.starts old.lengths) now k → length now.sets ≡ length old.sets
-    → length now.starts ≡ length old.starts → length now.lengths ≡ length old.lengths → (k ≡ length (observed report)) × Indexed report now
-indexed {report} {old} {now} {sizes} {marks} {cuts} {k} r a es et el =
-    let o : observed report ≡ a.rows = observed_is report a.is in
+pub indexed : {report : List ℕ} {old now : List Row} {cuts : List ℕ} {most k : ℕ} → RoomFor (length (observed report)) most old cuts
+    → AcceptedIs report 0 (room_in old) now k → length now ≡ length old → (k ≡ length (observed report)) × Indexed report now
+indexed {report} {old} {now} {cuts} {most} {k} r a l =
+    let o : observed report ≡ a.observations = observed_is report a.is in
     let n : k ≡ length (observed report) = sym a.count ∙ ap length (sym o) in (
       n,
       record {
-        sets_room = omega (arith, r.sets_room);
-        starts_room = omega (arith, r.starts_room);
-        lengths_room = omega (arith, r.lengths_room);
-        noted = λ i h. rw o (rw (zero-add i) at (a.noted i (omega (arith, r.sets_room, r.starts_room, r.lengths_room)) (omega arith)));
+        room = omega (arith, r.rows_room);
+        noted = λ i h. rw o (rw (zero-add i) at (a.noted i (omega (arith, r.rows_room)) (omega arith)));
       },
     )
 
@@ -112,38 +110,38 @@ marks_of_lem : (L : List Observation) → map mark_in (map set_of L) ≡ map mar
 marks_of_lem [] = refl
 marks_of_lem (o ∷ os) = rw (set_radar o, marks_of_lem os)
 
-module _ {report : List ℕ} {index : Index} (is : read report ≡ accepted (observed report)) (x : Indexed report index) where
+module _ {report : List ℕ} {index : List Row} (is : read report ≡ accepted (observed report)) (x : Indexed report index) where
   -- The size of a row, as the index notes it.
-  size_at : (i : ℕ) → i < length (observed report)
-      → bytes_in (take elements (drop (i * elements) index.lengths)) (get_or index.sets i 0) ≡ size_of (get_or (observed report) i [])
+  size_at : (i : ℕ) → i < length (observed report) → noted_bytes (row_at index i) ≡ size_of (get_or (observed report) i [])
   size_at i h =
       let right : Right (get_or (observed report) i []) = right_at (observed report) i (accepted_right report (observed report) is) h in
-      let long : length (take elements (drop (i * elements) index.lengths)) ≡ elements =
-      simp (length-take, length-drop) (omega (arith, x.lengths_room)) in
-      rw (x.noted i h).set_is (noted_size (get_or (observed report) i []) (take elements (drop (i * elements) index.lengths))
-      (long ∙ sym right.long)
-      (λ e k p.
-      let g : e < elements = omega (arith, right.long) in
-      get_or-take elements (drop (i * elements) index.lengths) e 0 g
-      ∙ (get_or-drop (i * elements) index.lengths e 0 ∙ ((x.noted i h).shows e g p).length_is)))
+      rw (x.noted i h).set_is (noted_size (get_or (observed report) i []) (row_at index i).lengths
+      (λ e k p. ((x.noted i h).shows e (omega (arith, right.long)) p).length_is))
 
-  -- The sizes that are filled in.
-  sizes_of : {sizes : List ℕ} → length (observed report) ≤ length sizes → SizesAre index.sets index.lengths sizes (length (observed report))
-      → take (length (observed report)) sizes ≡ map size_of (observed report)
-  unfolding size_of
-  sizes_of {sizes} room s =
-      let l : length (take (length (observed report)) sizes) ≡ length (observed report) = length-take-le _ sizes room in
-      ext_get_or 0 (take (length (observed report)) sizes) (map size_of (observed report)) (l ∙ sym (length-map (observed report) size_of))
+  -- The sizes that are noted.
+  sizes_of : map noted_bytes (take (length (observed report)) index) ≡ map size_of (observed report)
+  unfolding size_of bytes_in
+  sizes_of =
+      let n : ℕ = length (observed report) in
+      let l : length (take (length (observed report)) index) ≡ length (observed report) = length-take-le _ index x.room in
+      ext_get_or 0 (map noted_bytes (take (length (observed report)) index)) (map size_of (observed report))
+      (length-map (take (length (observed report)) index) noted_bytes ∙ (l ∙ sym (length-map (observed report) size_of)))
       (λ i h.
-      let k : i < length (observed report) = omega arith in
-      get_or-take (length (observed report)) sizes i 0 k ∙ (s.at i k ∙ (size_at i k ∙ sym (get_or-map size_of (observed report) i []))))
+      let k : i < length (observed report) = omega (arith, length-map (take (length (observed report)) index) noted_bytes) in
+      get_or-map noted_bytes (take (length (observed report)) index) i (record { present = 0; starts = []; lengths = [] })
+      ∙ (ap noted_bytes (get_or-take (length (observed report)) index i _ k) ∙ (size_at i k ∙ sym (get_or-map size_of (observed report) i []))))
 
   -- The sets that are noted.
-  sets_of : take (length (observed report)) index.sets ≡ map set_of (observed report)
-  sets_of =
-      let n : ℕ = length (observed report) in
-      let e : 0 + n - 0 ≡ n = omega arith in
-      rw (e, take-length (observed report)) at (rows_sets 0 n x (omega arith))
+  sets_of : map (λ (row : Row). row.present) (take (length (observed report)) index) ≡ map set_of (observed report)
+  sets_of = rw (take-length (observed report)) at (rows_sets 0 (length (observed report)) x (omega arith))
+
+  -- The marks of these.
+  marks_are : map (λ (row : Row). mark_in row.present) (take (length (observed report)) index) ≡ map mark_of (observed report)
+  marks_are = sym (map_map (take (length (observed report)) index)) ∙ (ap (map mark_in) sets_of ∙ marks_of_lem (observed report))
+    where
+      map_map : (rows : List Row) → map mark_in (map (λ (row : Row). row.present) rows) ≡ map (λ (row : Row). mark_in row.present) rows
+      map_map [] = refl
+      map_map (r ∷ rs) = ap (λ (l : List ℕ). mark_in r.present ∷ l) (map_map rs)
 
   -- The input of the search is ready.
   sets_ready : (cuts : List ℕ) → length (observed report) ≤ length cuts
@@ -162,12 +160,11 @@ module _ {report : List ℕ} {index : Index} (is : read report ≡ accepted (obs
       )
 
   -- So its cuts are those of the packed report.
-  pub cuts_planned : {sizes before after : List ℕ} {plan : Plan} → RowsCut index.sets index.lengths sizes (length (observed report)) before after plan
+  pub cuts_planned : {before after : List ℕ} {plan : Plan} → RowsCut (take (length (observed report)) index) before after plan
       → length (observed report) ≤ length before → CutIs report index after plan
-  cuts_planned {sizes} {before} {after} {plan} r room =
-      let e : take (length (observed report)) sizes ≡ map size_of (observed report) = sizes_of r.filled r.sizes_are in
+  cuts_planned {before} {after} {plan} r room =
       let p : Planned marked_bytes together (map as_marked (observed report)) plan before after =
-      rw (sets_of, marks_of_lem (observed report), e, sets_ready before room, rows_are (observed report)) at r.promised in
+      rw (marks_are, sets_of, sizes_of, sets_ready before room, rows_are (observed report)) at r.promised in
       let v : Valid (take plan.blocks after) (observed report) = rows_valid (take plan.blocks after) (observed report) p.wanted.cuts in
       record {
         is = is;
@@ -179,24 +176,33 @@ module _ {report : List ℕ} {index : Index} (is : read report ≡ accepted (obs
 
 -- Planning.
 
-module _ {report : List ℕ} {old index : Index} {sizes marks cuts : List ℕ} {answer : Result ℕ Refusal} {k : ℕ}
-    (room : RoomFor (length (observed report)) old sizes marks cuts)
-    (i : IndexIs report 0 (room_in old.sets old.starts old.lengths) index answer) (sets_kept : length index.sets ≡ length old.sets)
-    (starts_kept : length index.starts ≡ length old.starts) (lengths_kept : length index.lengths ≡ length old.lengths)
-    (e : answer ≡ Ok k) where
+-- The sizes that are filled in are those that are noted, where there is room for just as many.
+sizes_filled : (rows : List Row) {before after : List ℕ} {count : ℕ} → length before ≡ length rows → count ≡ sizes_in rows before → Sized rows before after count
+    → after ≡ map noted_bytes rows
+unfolding bytes_in
+sizes_filled rows {before} {after} {count} l n s =
+    ext_get_or 0 after (map noted_bytes rows) (s.long ∙ (l ∙ sym (length-map rows noted_bytes)))
+    (λ i h. s.at i (omega (arith, s.long, l, n)) ∙ sym (get_or-map noted_bytes rows i (record { present = 0; starts = []; lengths = [] })))
+
+-- What is cut by the marks, the sets and the sizes that were filled in.
+pub rows_cut : {rows : List Row} {sizes-before : List ℕ} → length sizes-before ≡ length rows → {marks sets sizes : List ℕ}
+    → marks ≡ map (λ (row : Row). mark_in row.present) rows → sets ≡ map (λ (row : Row). row.present) rows
+    → {count : ℕ} → (count ≡ sizes_in rows sizes-before) × Sized rows sizes-before sizes count
+    → {before after : List ℕ} {plan : Plan} → ShortestPromised marks sets sizes plan before after → RowsCut rows before after plan
+rows_cut {rows} l m s f p = record { promised = rw (m, s, sizes_filled rows l f.0 f.1) at p }
+
+module _ {report : List ℕ} {old index : List Row} {cuts : List ℕ} {most : ℕ} {answer : Result ℕ Refusal} {k : ℕ}
+    (room : RoomFor (length (observed report)) most old cuts)
+    (i : IndexIs report 0 (room_in old) index answer) (kept : length index ≡ length old) (e : answer ≡ Ok k) where
   noted : (k ≡ length (observed report)) × Indexed report index
-  noted = indexed room (accepted_of i e) sets_kept starts_kept lengths_kept
+  noted = indexed room (accepted_of i e) kept
 
   -- The rows of an accepted report can be cut.
-  pub rows_ask : (k ≤ length index.sets) × (k * elements ≤ length index.lengths) × (k ≤ length sizes) × (k ≤ length marks)
-  rows_ask =
-      let n = noted.0 in
-      let x = noted.1 in
-      (omega (arith, x.sets_room), omega (arith, x.lengths_room), omega (arith, room.sizes_room), omega (arith, room.marks_room))
+  pub rows_ask : (k ≤ length index) × (length (take k index) ≤ most)
+  rows_ask = (omega (arith, noted.0, noted.1.room), omega (arith, noted.0, room.few, length-take k index))
 
   -- They are cut.
-  pub plan_cut : {filled after : List ℕ} {plan : Plan} → RowsCut index.sets index.lengths filled k cuts after plan
-      → PlannedIs report index after (Ok plan)
+  pub plan_cut : {after : List ℕ} {plan : Plan} → RowsCut (take k index) cuts after plan → PlannedIs report index after (Ok plan)
   plan_cut r =
       let a = accepted_of i e in
       record { case = cuts_planned (rw (observed_is report a.is) a.is) noted.1 (rw noted.0 at r) room.cuts_room }

@@ -20,7 +20,7 @@ use Rattle.refusal.specs.Paper.{paper, Answer, refused_by, given, request}
 use Rattle.refusal.specs.declared.Kind.TheVariants.{OutputTooShort, CutsDiffer}
 use Rattle.element.specs.Observation.{Observation}
 use Rattle.report.specs.Report.{accepted, read}
-use Rattle.report.specs.Index.{Index}
+use Rattle.report.specs.declared.index.Row.{Row}
 use Rattle.layout.specs.Written.{written}
 use Rattle.cuts.specs.declared.Plan.{Plan}
 use Rattle.pack.specs.Promise.{WrittenAs, WritePromised}
@@ -46,7 +46,7 @@ pub write_accepted : {report handed before after : List ℕ} {answer : Answer �
     → WrittenAs L handed before after answer → WritePromised report handed before after answer
 write_accepted e p = record { case = rw e p }
 
-module _ {report : List ℕ} {index : Index} {cuts : List ℕ} {plan : Plan} (c : CutIs report index cuts plan) where
+module _ {report : List ℕ} {index : List Row} {cuts : List ℕ} {plan : Plan} (c : CutIs report index cuts plan) where
   module _ (handed output : List ℕ) where
     abbrev text : List ℕ
     text = written (take plan.blocks cuts) (observed report)

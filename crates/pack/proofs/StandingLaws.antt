@@ -7,7 +7,8 @@ use native.Mathlib.Omega.{arith}
 use lib.ListN.{length, take, drop, get_or, length-append, length-drop, length-map}
 use lib.Seq.{take-add, take-suc, drop-drop, get_or-drop}
 use Rattle.element.specs.Table.{elements}
-use Rattle.report.specs.Index.{Index}
+use Rattle.report.specs.Index.{row_at}
+use Rattle.report.specs.declared.index.Row.{Row}
 use Rattle.layout.specs.Written.{line_of}
 use Rattle.pack.specs.Inner.{observed, Indexed, value_in, end_of, field_text, StandsTo}
 use Rattle.pack.proofs.IndexLaws.{value_absent, value_long, value_there}
@@ -33,16 +34,16 @@ abbrev ByteTo : List ℕ → ℕ → ℕ → ℕ → Type 0
 ByteTo report at byte r = (r ≡ at + 1) × (at < length report) × (get_or report at 0 ≡ byte)
 
 -- The value of an element of a row, where the index notes it, and where it is absent.
-module _ {report : List ℕ} {index : Index} (row element : ℕ) (x : Indexed report index) (inside : row < length (observed report)) (start end : ℕ) where
-  pub field_there : element < elements → get_or index.sets row 0 / 2 ^ element % 2 ≡ 1 → (w l : ℕ) → w ≡ get_or index.starts (row * elements + element) 0 → w ≡ start
-      → l ≡ get_or index.lengths (row * elements + element) 0 → (r : ℕ) → ByteTo report (start + l) end r → StandsTo report start (field_text (value_in report row element) end) r
+module _ {report : List ℕ} {index : List Row} (row element : ℕ) (x : Indexed report index) (inside : row < length (observed report)) (start end : ℕ) where
+  pub field_there : element < elements → (row_at index row).present / 2 ^ element % 2 ≡ 1 → (w l : ℕ) → w ≡ get_or (row_at index row).starts element 0 → w ≡ start
+      → l ≡ get_or (row_at index row).lengths element 0 → (r : ℕ) → ByteTo report (start + l) end r → StandsTo report start (field_text (value_in report row element) end) r
   field_there known h w l e s d r b =
       let long : l ≡ length (value_in report row element) = d ∙ value_long row element x inside known h in
       let there : take (length (value_in report row element)) (drop start report) ≡ value_in report row element =
       (λ i. take ((sym long ∙ d) i) (drop ((sym s ∙ e) i) report)) ∙ value_there row element x inside known h in
       stand_field report (value_in report row element) start end r there (rw long at b)
 
-  pub field_absent : (get_or index.sets row 0 / 2 ^ element % 2 ≡ 1 → ⊥) → (r : ℕ) → ByteTo report start end r → StandsTo report start (field_text (value_in report row element) end) r
+  pub field_absent : ((row_at index row).present / 2 ^ element % 2 ≡ 1 → ⊥) → (r : ℕ) → ByteTo report start end r → StandsTo report start (field_text (value_in report row element) end) r
   field_absent h r b =
       let here : start + 0 ≡ start = omega arith in
       rw (← value_absent row element x inside h)

@@ -8,7 +8,8 @@ use Rattle.element.specs.Table.{elements, column_order}
 use Rattle.element.specs.Observation.{Observation, bit, is_radar_set}
 use Rattle.report.specs.Report.{Outcome, accepted, refused, read, row_limit}
 use Rattle.report.specs.Starts.{starts_in}
-use Rattle.report.specs.Index.{Index, Noted, noted_bytes}
+use Rattle.report.specs.Index.{row_at, Noted, noted_bytes}
+use Rattle.report.specs.declared.index.Row.{Row}
 use Rattle.cuts.specs.Plan.{ShortestPromised}
 use Rattle.cuts.specs.declared.Plan.{Plan}
 use Rattle.layout.specs.Packed.{ShortestCuts}
@@ -24,12 +25,10 @@ observations_of (refused refusal) = []
 unfoldable pub observed : List ℕ → List Observation
 observed report = observations_of (read report)
 
--- The index notes every observation of the report, each in its row.
-pub record Indexed (report : List ℕ) (index : Index) : Type 0 where
-  pub sets_room : length (observed report) ≤ length index.sets
-  pub starts_room : length (observed report) * elements ≤ length index.starts
-  pub lengths_room : length (observed report) * elements ≤ length index.lengths
-  pub noted : (i : ℕ) → i < length (observed report) → Noted report index i (get_or (observed report) i []) (get_or (starts_in report) i [])
+-- The rows of an index note every observation of the report.
+pub record Indexed (report : List ℕ) (rows : List Row) : Type 0 where
+  pub room : length (observed report) ≤ length rows
+  pub noted : (i : ℕ) → i < length (observed report) → Noted report (row_at rows i) (get_or (observed report) i []) (get_or (starts_in report) i [])
 
 -- The value of an element of a row of the report.
 abbrev pub value_in : List ℕ → ℕ → ℕ → List ℕ
@@ -60,8 +59,8 @@ abbrev pub row_line : List ℕ → List ℕ → ℕ → List ℕ
 row_line report columns row = line_of (values_at columns (get_or (observed report) row []))
 
 -- A row of the report can be written.
-pub record RowAsks (report : List ℕ) (index : Index) (columns output : List ℕ) (row : ℕ) : Type 0 where
-  pub indexed : Indexed report index
+pub record RowAsks (report : List ℕ) (rows : List Row) (columns output : List ℕ) (row : ℕ) : Type 0 where
+  pub indexed : Indexed report rows
   pub inside : row < length (observed report)
   pub columns_are : Columns columns
   pub room : length (row_line report columns row) ≤ length output
@@ -85,70 +84,62 @@ abbrev pub rows_from : List ℕ → ℕ → ℕ → List Observation
 rows_from report first count = take count (drop first (observed report))
 
 -- The data lines of these rows can be written.
-pub record RowsAsk (report : List ℕ) (index : Index) (columns output : List ℕ) (first count : ℕ) : Type 0 where
-  pub indexed : Indexed report index
+pub record RowsAsk (report : List ℕ) (rows : List Row) (columns output : List ℕ) (first count : ℕ) : Type 0 where
+  pub indexed : Indexed report rows
   pub inside : first + count ≤ length (observed report)
   pub columns_are : Columns columns
   pub room : length (data_lines columns (rows_from report first count)) ≤ length output
 
 -- The block of these rows can be written.
-pub record BlockAsks (report : List ℕ) (index : Index) (output : List ℕ) (first count : ℕ) : Type 0 where
-  pub indexed : Indexed report index
+pub record BlockAsks (report : List ℕ) (rows : List Row) (output : List ℕ) (first count : ℕ) : Type 0 where
+  pub indexed : Indexed report rows
   pub some : 0 < count
   pub inside : first + count ≤ length (observed report)
   pub room : length (block_text (rows_from report first count)) ≤ length output
 
 -- The report can be written by these cuts.
-pub record BlocksAsk (report : List ℕ) (index : Index) (cuts output : List ℕ) : Type 0 where
-  pub indexed : Indexed report index
+pub record BlocksAsk (report : List ℕ) (rows : List Row) (cuts output : List ℕ) : Type 0 where
+  pub indexed : Indexed report rows
   pub valid : Valid cuts (observed report)
   pub room : length (written cuts (observed report)) ≤ length output
 
 -- ---- the plan
 
--- The first of the sizes are those of the rows, as the index notes them.
-pub record SizesAre (sets lengths sizes : List ℕ) (count : ℕ) : Type 0 where
-  pub at : (i : ℕ) → i < count → get_or sizes i 0 ≡ noted_bytes sets lengths i
-
 -- The mark of the observation with this set.
 abbrev pub mark_in : ℕ → ℕ
 mark_in set = bit (is_radar_set set)
 
--- The first rows of the index are cut, by their sets, the marks of these, and their sizes, which are filled in.
-pub record RowsCut (sets lengths sizes : List ℕ) (rows : ℕ) (before after : List ℕ) (plan : Plan) : Type 0 where
-  pub filled : rows ≤ length sizes
-  pub sizes_are : SizesAre sets lengths sizes rows
-  pub promised : ShortestPromised (map mark_in (take rows sets)) (take rows sets) (take rows sizes) plan before after
+-- The rows are cut, by the marks, the sets and the sizes of what they note.
+pub record RowsCut (rows : List Row) (before after : List ℕ) (plan : Plan) : Type 0 where
+  pub promised : ShortestPromised (map (λ row. mark_in row.present) rows) (map (λ row. row.present) rows) (map noted_bytes rows) plan before after
 
--- The lent lists have room for so many rows, and the index for one row more, which the reader uses itself.
-pub record RoomFor (rows : ℕ) (index : Index) (sizes marks cuts : List ℕ) : Type 0 where
-  pub sets_room : rows < length index.sets
-  pub starts_room : rows * elements + elements ≤ length index.starts
-  pub lengths_room : rows * elements + elements ≤ length index.lengths
-  pub sizes_room : rows ≤ length sizes
-  pub marks_room : rows ≤ length marks
-  pub cuts_room : rows ≤ length cuts
+-- There are no more rows than so many; the lent rows are more, since the reader uses the last itself, and there is room for their cuts.
+pub record RoomFor (count most : ℕ) (rows : List Row) (cuts : List ℕ) : Type 0 where
+  pub few : count ≤ most
+  pub most_few : most ≤ row_limit
+  pub rows_room : count < length rows
+  pub cuts_room : count ≤ length cuts
 
--- The report has no more than so many rows, and so many sets and values are those of one row more.
-abbrev pub RoomAsks : List ℕ → ℕ → ℕ → ℕ → Type 0
-RoomAsks report rows sets values = (length (observed report) ≤ rows) × (rows ≤ row_limit) × (sets ≡ rows + 1) × (values ≡ sets * elements)
+-- The report has no more than so many rows, and its index one row more.
+abbrev pub RoomAsks : List ℕ → ℕ → ℕ → Type 0
+RoomAsks report rows noted = (length (observed report) ≤ rows) × (rows ≤ row_limit) × (noted ≡ rows + 1)
 
--- The first of the cuts are those of the packed report, which has so many bytes, and the index notes the report.
-pub record CutIs (report : List ℕ) (index : Index) (cuts : List ℕ) (plan : Plan) : Type 0 where
+-- The first of the cuts are those of the packed report, which has so many bytes, and the rows note the report.
+pub record CutIs (report : List ℕ) (rows : List Row) (cuts : List ℕ) (plan : Plan) : Type 0 where
   pub is : read report ≡ accepted (observed report)
-  pub indexed : Indexed report index
+  pub indexed : Indexed report rows
   pub within : plan.blocks ≤ length cuts
   pub shortest : ShortestCuts (observed report) (take plan.blocks cuts)
   pub bytes_are : plan.bytes ≡ length (written (take plan.blocks cuts) (observed report))
 
 -- By what planning answers.
-abbrev pub PlannedCase : List ℕ → Index → List ℕ → Result Plan Refusal → Type 0
-PlannedCase report index cuts (Ok plan) = CutIs report index cuts plan
-PlannedCase report index cuts (Err refusal) = read report ≡ refused refusal
+abbrev pub PlannedCase : List ℕ → List Row → List ℕ → Result Plan Refusal → Type 0
+PlannedCase report rows cuts (Ok plan) = CutIs report rows cuts plan
+PlannedCase report rows cuts (Err refusal) = read report ≡ refused refusal
 
 -- What planning promises: the cuts of the packed report, or the report's refusal.
-pub record PlannedIs (report : List ℕ) (index : Index) (cuts : List ℕ) (answer : Result Plan Refusal) : Type 0 where
-  pub case : PlannedCase report index cuts answer
+pub record PlannedIs (report : List ℕ) (rows : List Row) (cuts : List ℕ) (answer : Result Plan Refusal) : Type 0 where
+  pub case : PlannedCase report rows cuts answer
 
 -- ---- the answers
 

@@ -17,8 +17,8 @@ slice_bounds-write_names-start c =
 pub write_names-requires : goal.write_names-requires
 write_names-requires c = names_ask c.requires c.join.ensures c.list_columns-columns.ensures c.write_version-named.ensures
 
-pub overflow_add-rows : goal.overflow_add-rows
-overflow_add-rows c =
+pub overflow_add-lines : goal.overflow_add-lines
+overflow_add-lines c =
     omega (arith, c.write_names.ensures.answer_is, names_inside c.requires c.join.ensures c.list_columns-columns.ensures c.write_version-named.ensures)
 
 pub slice_bounds-write_rows-count : goal.slice_bounds-write_rows-count
