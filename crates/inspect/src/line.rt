@@ -9,6 +9,7 @@ use text::lines::{Field, field_at, is_printable};
 use text::part::{at, front, tail};
 
 // Where the first byte outside 0x20 to 0x7E stands in a line; the line's length where there is none.
+#[tactic(auto, unfolding(crate::specs::Line::printable_front))]
 pub fn first_wrong(line: &[u8]) -> usize
     ensures { result ≡ printable_front line.now }
 {

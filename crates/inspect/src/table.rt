@@ -6,6 +6,7 @@ use crate::part;
 use text::part::same;
 
 // The entry of a row in a column, both counted from 0; empty where there is none.
+#[tactic(auto, unfolding(crate::specs::Tables::entry_of))]
 pub fn entry(table: &[u8], row: usize, column: usize) -> &[u8]
     ensures { result.now ≡ entry_of table.now row column }
 {
