@@ -44,6 +44,7 @@ fn start(text: &[u8], number: usize) -> usize
 }
 
 // The length of a text's first block: up to the next line that begins with `#`, or to the end of the text.
+#[tactic(auto, unfolding(crate::specs::Blocks::block_length))]
 fn first_length(text: &[u8]) -> usize
     ensures { (result ≡ block_length text.now) × (result ≤ length text.now) }
 {

@@ -15,6 +15,7 @@ pub fn part(text: &[u8], at: usize, mark: u8) -> &[u8]
 }
 
 // The place after the next mark, or the end of the text.
+#[tactic(auto, unfolding(crate::specs::Part::after_mark))]
 pub fn after(text: &[u8], at: usize, mark: u8) -> usize
     ensures { result ≡ after_mark text.now at mark }
 {
