@@ -12,7 +12,6 @@ use crate::writing::put_record;
 use element::form;
 use element::observation::is_radar;
 use refusal::{Kind, Refusal};
-use report::answer::Checked;
 use report::index::{index, value_of};
 use value::Value;
 
@@ -38,12 +37,8 @@ pub(crate) fn write_with(
     ensures { (written_paper result ≡ written_answer (read_of report.now) observation list.old) × (list.new ≡ list_after (read_of report.now) observation list.old) }
 {
     let row = observation.saturating_sub(1);
-    match index(report, row, sets, starts, lengths) {
-        Checked::Refused(refusal) => Err(refusal),
-        Checked::Accepted(count) => {
-            write_noted(report, sets, starts, lengths, count, observation, list)
-        }
-    }
+    let count = index(report, row, sets, starts, lengths)?;
+    write_noted(report, sets, starts, lengths, count, observation, list)
 }
 
 // Writes the record of an observation, of so many, that the first row of an index notes.
@@ -110,7 +105,7 @@ fn noted_value(
     lengths: &[u16],
     row: usize,
     element: usize,
-) -> Value
+) -> Result<Value, Kind>
     ensures { result ≡ value_of element (noted_value report.now (lent sets.now starts.now lengths.now) row element) }
 {
     form::value(
