@@ -1,4 +1,6 @@
 // What a report's blocks cost in bytes, and what other blocks of the same rows would have cost.
+ghost use Rattle.std.specs.Prelude.{◌≤◌, length};
+
 use crate::rows::Rows;
 use account::Block;
 use inspect::ROWS;
@@ -10,6 +12,7 @@ use std::io;
 struct BlockRows {
     rows: [usize; ROWS],
     blocks: usize,
+    ghost filled: { blocks ≤ length rows },
 }
 
 impl BlockRows {

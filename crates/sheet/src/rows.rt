@@ -13,7 +13,7 @@ pub(crate) struct Rows<'a> {
 impl<'a> Rows<'a> {
     // So many rows from the first on, as many as there are at most, and those after them.
     pub(crate) fn split_at(self, count: usize) -> (Rows<'a>, Rows<'a>)
-        ensures { length result.1.sets.now ≡ length self.sets.now - count }
+        ensures { length result.1.sets.now ≡ length self.entry.sets.now - count }
     {
         let (sets, later_sets) = self.sets.split_at(count.min(self.sets.len()));
         let (sizes, later_sizes) = self.sizes.split_at(count.min(self.sizes.len()));
