@@ -1,6 +1,5 @@
 // The commands: one table, from which they are found, their usage is told and the help is printed.
-use std::fmt;
-use std::io;
+use std::{fmt, io};
 
 // A command: `run`, or one that a file of commands may hold.
 #[derive(Clone, Copy)]
@@ -213,9 +212,7 @@ impl fmt::Display for Usage {
 
 // How the command of a name is used, if there is one.
 pub(crate) fn find(name: &[u8]) -> Option<&'static Usage> {
-    COMMANDS
-        .iter()
-        .find(|usage| usage.name.as_bytes() == name)
+    COMMANDS.iter().find(|usage| usage.name.as_bytes() == name)
 }
 
 // Prints how every command is used, and what it answers.

@@ -4,7 +4,6 @@ use crate::{error, file};
 use answers::packed::{print_length, print_packed};
 use report::{ROW_LIMIT, TEXT_LIMIT};
 use std::rt::Runtime;
-use text::list;
 use text::part::front;
 
 // Tells how long the packed report of a report is, and what it saves; or tells the report's refusal.
@@ -15,7 +14,7 @@ pub(crate) fn tell_length(rt: &impl Print, report: &[u8]) -> Result<(), Stop> {
         rt,
         measured.length,
         report.len(),
-        list::front(&cuts, measured.blocks),
+        front(&cuts, measured.blocks),
     )?;
     Ok(())
 }
@@ -25,7 +24,7 @@ pub(crate) fn pack_into(rt: &impl Runtime, name: &[u8], report: &[u8]) -> Result
     let mut space = [0u16; ROW_LIMIT];
     let mut output = [0u8; TEXT_LIMIT];
     let measured = error::explained(rt, report, pack::measure(report, &mut space))?;
-    let cuts = list::front(&space, measured.blocks);
+    let cuts = front(&space, measured.blocks);
     let length = error::explained(rt, report, pack::write(report, cuts, &mut output))?;
     file::write(rt, name, front(&output, length))?;
     print_packed(rt, length, report.len(), cuts)?;

@@ -91,12 +91,7 @@ fn check_use(rt: &impl Print, usage: &Usage, command: &[u8]) -> Result<(), Stop>
 }
 
 // Obeys a command that is not `run`, if it has as many words as it wants.
-fn obey_once(
-    rt: &impl Runtime,
-    usage: &Usage,
-    task: Task,
-    command: &[u8],
-) -> Result<(), Stop> {
+fn obey_once(rt: &impl Runtime, usage: &Usage, task: Task, command: &[u8]) -> Result<(), Stop> {
     check_use(rt, usage, command)?;
     match task {
         Task::Check => checking::obey(rt, command),

@@ -1,7 +1,7 @@
 // The files that a command names after its first argument: reports, read one after the other as one text.
 use crate::command::{PARTING, rest};
-use crate::status::Stop;
 use crate::file;
+use crate::status::Stop;
 use inspect::part;
 use report::ROW_LIMIT;
 use sheet::sources::Sources;
@@ -40,10 +40,7 @@ fn read_files(
     lengths: &mut [usize],
 ) -> Result<usize, Stop> {
     let mut total: usize = 0;
-    for (name, length) in names
-        .split(|byte| *byte == PARTING)
-        .zip(lengths.iter_mut())
-    {
+    for (name, length) in names.split(|byte| *byte == PARTING).zip(lengths.iter_mut()) {
         *length = read_after(rt, name, total, space)?;
         total = total.saturating_add(*length);
     }

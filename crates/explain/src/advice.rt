@@ -121,25 +121,25 @@ fn needing(faulty: FaultyLine, missing: usize) -> Option<usize> {
 // Prints what is odd about a line, and what to do about it; what to do about its fault where nothing is.
 fn print_odd(rt: &impl Print, faulty: FaultyLine) -> io::Result<()> {
     match first_oddity(faulty.text) {
-        Oddity::ByteOrderMark => println!(rt;
+        Some(Oddity::ByteOrderMark) => println!(rt;
             "The line begins with a byte order mark, EF BB BF: save the text without one."
         ),
-        Oddity::Tab => println!(rt;
+        Some(Oddity::Tab) => println!(rt;
             "It is a tab: fields are parted by bars and padded with blanks."
         ),
-        Oddity::CarriageReturn => println!(rt;
+        Some(Oddity::CarriageReturn) => println!(rt;
             "It is a carriage return: a line ends with a line feed alone."
         ),
-        Oddity::BlankLine => println!(rt; "The line is blank: take it out."),
-        Oddity::BlankAfterVersion => println!(rt;
+        Some(Oddity::BlankLine) => println!(rt; "The line is blank: take it out."),
+        Some(Oddity::BlankAfterVersion) => println!(rt;
             "A blank follows the version line: it is `# version=2022`, byte by byte."
         ),
-        Oddity::OtherEdition => println!(rt;
+        Some(Oddity::OtherEdition) => println!(rt;
             "This box takes edition 2022 alone: the version line is `# version=2022`, byte by byte."
         ),
-        Oddity::HeaderLine => println!(rt;
+        Some(Oddity::HeaderLine) => println!(rt;
             "A header line, as `# observatory`, is outside this box's scope: take it out."
         ),
-        Oddity::Nothing => refusals::print_advice(rt, faulty.fault.kind),
+        None => refusals::print_advice(rt, faulty.fault.kind),
     }
 }

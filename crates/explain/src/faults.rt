@@ -183,7 +183,7 @@ fn last_row<'a>(
 fn is_passed(line: &[u8]) -> bool {
     matches!(
         first_oddity(part::part(line, 0, b'\n')),
-        Oddity::BlankLine | Oddity::HeaderLine
+        Some(Oddity::BlankLine | Oddity::HeaderLine)
     )
 }
 

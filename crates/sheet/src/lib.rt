@@ -12,7 +12,6 @@ use explain::refusals;
 use refusal::Refusal;
 use report::{ROW_LIMIT, TEXT_LIMIT};
 use std::io;
-use text::list;
 use text::part::front;
 use words::print;
 
@@ -64,7 +63,7 @@ fn print_proof_of_check(rt: &impl Print) -> io::Result<()> {
 pub fn print_packing(rt: &impl Print, report: &[u8], question: &str) -> io::Result<()> {
     let mut cuts = [0u16; ROW_LIMIT];
     if let Ok(measured) = pack::measure(report, &mut cuts) {
-        print_packed(rt, report, list::front(&cuts, measured.blocks), question)?;
+        print_packed(rt, report, front(&cuts, measured.blocks), question)?;
     }
     Ok(())
 }
