@@ -1,25 +1,23 @@
 -- Laws of the comparison: one for each step and each end of its two loops.
-use Prim.Native.Nat.{ℕ, zero, suc, ◌+◌, ◌-◌, ◌*◌, ◌≤◌, ◌<◌}
+use Prim.Native.Nat.{ℕ, zero, suc, ◌+◌, ◌-◌, ◌≤◌, ◌<◌}
 use mathlib.Core.Path.{◌≡◌, refl, sym, ap, ◌∙◌}
 use mathlib.Core.Bool.{Bool, true, false}
 use mathlib.Core.List.{List, [], ◌∷◌}
 use native.Mathlib.Numerals.{add-one}
 use native.Mathlib.Omega.{arith}
-use lib.ListN.{length, drop, get_or, replicate, drop_of_length-le, length-replicate}
+use lib.ListN.{length, drop, get_or, drop_of_length-le}
 use lib.Seq.{drop-cons}
 use borrow.Author.Tests.{eq-eqb, ne_eqb}
 use native.Mathlib.Decide.{dec_le}
-use Rattle.std.specs.Prelude.{Option, Some, None, is_some, Result, Ok, min}
+use Rattle.std.specs.Prelude.{Option, Some, None, is_some, min}
 use Rattle.text.specs.Numbered.{numbered}
 use Rattle.text.specs.Part.{same}
-use Rattle.refusal.specs.declared.Refusal.{Refusal}
 use Rattle.element.specs.Table.{elements}
 use Rattle.element.specs.Observation.{Observation}
-use Rattle.report.specs.Report.{accepted, refused, read, row_limit}
-use Rattle.report.specs.Index.{Index, Noted, noted_value, room_in, IndexIs}
-use Rattle.report.proofs.AnswerLaws.{accepted_of}
+use Rattle.report.specs.Report.{accepted, read, row_limit}
+use Rattle.report.specs.Index.{Index, Noted, noted_value}
 use Rattle.report.proofs.IndexLaws.{noted_value_lem}
-use Rattle.comparison.specs.declared.Compared.TheVariants.{Same, Differ, FirstRefused, SecondRefused}
+use Rattle.comparison.specs.declared.Compared.TheVariants.{Same, Differ}
 use Rattle.comparison.specs.Comparison.{differs_from, first_element, first_difference, compared_of}
 use Rattle.comparison.specs.Steps.{observations_of, NotesAll}
 
@@ -151,35 +149,3 @@ module _ (t u : List ℕ) where
         rows_on z =
             inv
             ∙ rw (first_cons h, second_cons k, eq-eqb (first_element (get_or (observations_of (read t)) row []) (get_or (observations_of (read u)) row [])) 0 (none_zero _ d number_is z), add-one row)
-
--- The indexes.
-
--- How many rows and entries the lists have.
-abbrev pub rows : ℕ
-rows = row_limit + 1
-
-abbrev pub entries : ℕ
-entries = rows * elements
-
--- Lists of those lengths have room for every row of a report.
-room_of : (sets starts lengths : List ℕ) → length sets ≡ rows → length starts ≡ entries → length lengths ≡ entries → room_in sets starts lengths ≡ row_limit
-room_of sets starts lengths a b c = rw (a, b, c)
-
--- A list of zeros is as long as it was made.
-pub zeros_long : (count : ℕ) → length {A = ℕ} (replicate count 0) ≡ count
-zeros_long count = length-replicate {A = ℕ} count 0
-
-pub room_all : room_in (replicate rows 0) (replicate entries 0) (replicate entries 0) ≡ row_limit
-room_all = room_of (replicate rows 0) (replicate entries 0) (replicate entries 0) (zeros_long rows) (zeros_long entries) (zeros_long entries)
-
--- So an index of them notes every row.
-pub noted_all : {t : List ℕ} {room : ℕ} {x : Index} {r : Result ℕ Refusal} → IndexIs t 0 room x r → room ≡ row_limit → length x.sets ≡ rows
-    → length x.starts ≡ entries → length x.lengths ≡ entries → {k : ℕ} → r ≡ Ok k → NotesAll t x k
-noted_all i z a b c e = record { accepts = rw z at (accepted_of i e); holds = omega arith }
-
--- The first text is refused, or else the second is.
-pub first_refused : (t u : List ℕ) {z : Refusal} → read t ≡ refused z → FirstRefused z ≡ compared_of (read t) (read u)
-first_refused t u e = rw e
-
-pub second_refused : {t : List ℕ} {x : Index} {n : ℕ} → NotesAll t x n → (u : List ℕ) {z : Refusal} → read u ≡ refused z → SecondRefused z ≡ compared_of (read t) (read u)
-second_refused a u e = rw (a.accepts.is, e)
