@@ -90,7 +90,8 @@ fn check_use(rt: &impl Print, usage: &Usage, command: &[u8]) -> Result<(), Stop>
     Err(Stop::Failed)
 }
 
-// Obeys a command that is not `run`, if it has as many words as it wants.
+// Obeys a command that is not `run`, if it has as many words as it wants. Each is handed something else, so a table of functions would be no
+// plainer than this match.
 fn obey_once(rt: &impl Runtime, usage: &Usage, task: Task, command: &[u8]) -> Result<(), Stop> {
     check_use(rt, usage, command)?;
     match task {

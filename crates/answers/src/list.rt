@@ -40,9 +40,9 @@ fn print_row(
 
 // Prints an element's name and its value.
 fn print_value(rt: &impl Print, element: usize, value: &[u8]) -> io::Result<()> {
-    print::bytes(rt, b"  ")?;
+    print!(rt; "  ")?;
     print_name(rt, element)?;
-    print::bytes(rt, b" ")?;
+    print!(rt; " ")?;
     print::bytes(rt, value)?;
     print::line_end(rt)
 }

@@ -19,7 +19,7 @@ pub fn print_shown(rt: &impl Print, report: &[u8], asked: Asked, value: Span) ->
         number: value.length,
         name: "byte",
     };
-    print::bytes(rt, b"shown ")?;
+    print!(rt; "shown ")?;
     print::bytes(rt, report::shown(report, asked.observation, asked.element))?;
     print::line_end(rt)?;
     print_asked(rt, asked)?;

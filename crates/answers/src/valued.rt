@@ -26,7 +26,7 @@ fn print_meaning(rt: &impl Print, value: Value) -> io::Result<()> {
         ),
         Value::Angle(_) => println!(rt; ": in units of 0.000000001 degree."),
         Value::Scaled(negative, high, low, power) => {
-            print::bytes(rt, b": ")?;
+            print!(rt; ": ")?;
             print::in_parts(rt, negative, high, low)?;
             println!(rt; " x 10^{power}, its digits as a whole number times a power of ten.")
         }

@@ -4,7 +4,6 @@ use crate::{elements, kinds, names, refusals};
 use inspect::oddity::{Oddity, first_oddity};
 use refusal::Kind;
 use std::io;
-use words::print;
 
 // The numbers of three elements that belong to some radar observations alone.
 const DELAY: usize = 32;
@@ -54,7 +53,7 @@ fn print_missing(rt: &impl Print, radar: Option<usize>, missing: usize) -> io::R
 
 // Prints which kind an observation is, from the first element that makes it radar, if one does.
 fn print_which(rt: &impl Print, radar: Option<usize>) -> io::Result<()> {
-    print::bytes(rt, b"The observation is ")?;
+    print!(rt; "The observation is ")?;
     kinds::print_kind(rt, radar)
 }
 
@@ -88,7 +87,7 @@ fn print_foreign(rt: &impl Print, radar: Option<usize>, foreign: usize) -> io::R
 // Prints that an optical observation's element stands in a radar one, from the first element that makes it so.
 fn print_optical(rt: &impl Print, radar: Option<usize>, foreign: usize) -> io::Result<()> {
     print_which(rt, radar)?;
-    print::bytes(rt, b"Leave ")?;
+    print!(rt; "Leave ")?;
     elements::print_name(rt, foreign)?;
     println!(rt;
         " out, or, where the observation is optical, trx, rcv, delay, rmsDelay, doppler, rmsDoppler, frq and com."
@@ -99,9 +98,9 @@ fn print_optical(rt: &impl Print, radar: Option<usize>, foreign: usize) -> io::R
 fn print_need(rt: &impl Print, faulty: FaultyLine, missing: usize) -> io::Result<()> {
     if let Some(present) = needing(faulty, missing) {
         elements::print_name(rt, present)?;
-        print::bytes(rt, b" needs ")?;
+        print!(rt; " needs ")?;
         elements::print_name(rt, missing)?;
-        print::bytes(rt, b".\n")?;
+        println!(rt; ".")?;
     }
     refusals::print_advice(rt, Kind::GroupIncomplete)
 }

@@ -82,7 +82,8 @@ pub fn print_faults(rt: &impl Print, report: &[u8], first: Refusal) -> io::Resul
     )
 }
 
-// Prints the faults of the lines after that of a number; none after too many data lines.
+// Prints the faults of the lines after that of a number; none after too many data lines. The lines are counted by hand, since the number of
+// the line after the last is wanted too: with `enumerate` they would have to be counted once more for that.
 fn list_rest(rt: &impl Print, report: &[u8], first: usize, told: &mut [bool]) -> io::Result<()> {
     let mut space = [0u8; ROOM];
     let mut number: usize = 1;

@@ -1,15 +1,14 @@
 // The two kinds of observations in words: which one a data line is, and what each may hold.
 use crate::elements;
 use std::io;
-use words::print;
 
 // Prints which kind an observation is, and why, from the first element that makes it radar, if one does.
 pub(crate) fn print_kind(rt: &impl Print, radar: Option<usize>) -> io::Result<()> {
     match radar {
         Some(element) => {
-            print::bytes(rt, b"radar, since it has ")?;
+            print!(rt; "radar, since it has ")?;
             elements::print_name(rt, element)?;
-            print::bytes(rt, b".\n")
+            println!(rt; ".")
         }
         None => println!(rt;
             "optical, since it has none of trx, rcv, delay, rmsDelay, doppler, rmsDoppler, frq and com."

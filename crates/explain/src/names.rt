@@ -70,7 +70,7 @@ pub fn print_hint(rt: &impl Print, name: &[u8]) -> io::Result<()> {
         print::bytes(rt, name)?;
         println!(rt; " is an ADES element outside this box's scope.")?;
     } else if let Some(element) = suggested(name) {
-        print::bytes(rt, b"Is ")?;
+        print!(rt; "Is ")?;
         elements::print_name(rt, element)?;
         println!(rt; " meant?")?;
     }

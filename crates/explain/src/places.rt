@@ -6,7 +6,6 @@ use refusal::{Fault, Kind, Refusal};
 use std::io;
 use text::lines::{Span, scan};
 use text::part::{at, front, tail};
-use words::print;
 
 // The first and the last of the elements of which any makes an observation radar: trx and com.
 const RADAR_FIRST: usize = 30;
@@ -112,10 +111,10 @@ fn print_column(rt: &impl Print, faulty: FaultyLine) -> io::Result<()> {
     let place = faulty.fault.place;
     print!(rt; "Column {place}")?;
     if let Some(element) = faulty.element() {
-        print::bytes(rt, b", ")?;
+        print!(rt; ", ")?;
         elements::print_name(rt, element)?;
     }
-    print::bytes(rt, b":\n")?;
+    println!(rt; ":")?;
     line::print_marked(rt, faulty.text, field(faulty.text, place).value)
 }
 
@@ -137,7 +136,7 @@ fn print_which(rt: &impl Print, element: usize, radar: bool) -> io::Result<()> {
         _ => {
             print!(rt; "Element {element}, ")?;
             elements::print_name(rt, element)?;
-            print::bytes(rt, b":\n")
+            println!(rt; ":")
         }
     }
 }

@@ -78,7 +78,7 @@ fn cost_of(rows: Rows, counts: &[usize]) -> u64 {
     total
 }
 
-// The bytes of the rows with a block at every change of columns.
+// The bytes of the rows with a block at every change of columns, which is what `like_rows` promises.
 fn cost_by_change(rows: Rows) -> u64 {
     let mut total: u64 = 0;
     let mut rest = rows;

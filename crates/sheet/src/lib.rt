@@ -23,9 +23,9 @@ pub fn print_heading(rt: &impl Print, name: &[u8], length: usize, count: usize) 
 
 // Prints which program made the sheet, and of which file of so many bytes.
 fn print_file(rt: &impl Print, name: &[u8], length: usize) -> io::Result<()> {
-    print::bytes(rt, b"Sheet of ")?;
+    print!(rt; "Sheet of ")?;
     print::version(rt)?;
-    print::bytes(rt, b". Report: ")?;
+    print!(rt; ". Report: ")?;
     print::bytes(rt, name)?;
     print!(rt; ", {length} bytes")
 }

@@ -158,11 +158,11 @@ fn print_values(
 
 // Prints the value of an element, and where it is so.
 fn print_value(rt: &impl Print, element: usize, place: &[u8], value: &[u8]) -> io::Result<()> {
-    print::bytes(rt, b"   Its ")?;
+    print!(rt; "   Its ")?;
     print_name(rt, element)?;
-    print::bytes(rt, b" in ")?;
+    print!(rt; " in ")?;
     print::bytes(rt, place)?;
-    print::bytes(rt, b": ")?;
+    print!(rt; ": ")?;
     print::bytes(rt, value)?;
     print::line_end(rt)
 }
