@@ -1,86 +1,58 @@
 // `ades check`, `ades faults` and `ades list`: how many observations a report has, its faults, its observations.
-use crate::command::{arguments, word};
-use crate::file;
+use crate::command::{PARTING, arguments};
 use crate::file::SPACE;
-use crate::status::{DONE, FAILED, REFUSED, worse};
+use crate::status::{Status, Stop};
+use crate::{error, file};
 use answers::list::print_list;
 use explain::faults;
-use files::Input;
-use report::answer::Checked;
-use std::io;
 use std::rt::Runtime;
-use text::part::front;
 use words::print;
 
-// Obeys `check FILE..`, and says how the worst of the files went.
-pub(crate) fn obey(rt: &impl Runtime, command: &[u8]) -> io::Result<usize> {
-    let files = arguments(command);
-    let several = 1 < files;
-    let mut worst: usize = DONE;
-    let mut k: usize = 0;
-    while k < files {
-        k += 1;
-        worst = worse(worst, check_file(rt, word(command, k), several)?);
+// Obeys `check FILE..`; the worst outcome counts.
+pub(crate) fn obey(rt: &impl Runtime, command: &[u8]) -> Result<(), Stop> {
+    let several = 1 < arguments(command);
+    let mut worst = Status::Done;
+    for name in command.split(|byte| *byte == PARTING).skip(1) {
+        worst = worst.max(Status::of(check_file(rt, name, several))?);
     }
-    Ok(worst)
+    worst.outcome()
 }
 
 // Checks a file; where it is one of several its name stands before the answer.
-fn check_file(rt: &impl Runtime, name: &[u8], several: bool) -> io::Result<usize> {
+fn check_file(rt: &impl Runtime, name: &[u8], several: bool) -> Result<(), Stop> {
     let mut space = [0u8; SPACE];
-    let Input::Length(length) = file::read(rt, name, &mut space)? else {
-        return Ok(FAILED);
-    };
+    let report = file::read(rt, name, &mut space)?;
     if several {
         print::bytes(rt, name)?;
-        print::bytes(rt, b": ")?;
+        print!(rt; ": ")?;
     }
-    check(rt, front(&space, length), several)
-}
-
-// Prints what checking a report comes to.
-fn check(rt: &impl Print, report: &[u8], several: bool) -> io::Result<usize> {
-    match report::check(report) {
-        Checked::Accepted(observations) => {
-            print::accepted_line(rt, observations)?;
-            if !several {
-                print::bytes(rt, b"The report has no fault.\n")?;
-            }
-            Ok(DONE)
-        }
-        Checked::Refused(refusal) => {
-            explain::refused(rt, report, refusal)?;
-            Ok(REFUSED)
-        }
+    let observations = error::explained(rt, report, report::check(report))?;
+    print::accepted_line(rt, observations)?;
+    if !several {
+        println!(rt; "The report has no fault.")?;
     }
+    Ok(())
 }
 
 // Prints what checking a report comes to, and the faults after the first.
-pub(crate) fn list_faults(rt: &impl Print, report: &[u8]) -> io::Result<usize> {
+pub(crate) fn list_faults(rt: &impl Print, report: &[u8]) -> Result<(), Stop> {
     match report::check(report) {
-        Checked::Accepted(observations) => {
+        Ok(observations) => {
             print::accepted_line(rt, observations)?;
-            print::bytes(rt, b"The report has no fault.\n")?;
-            Ok(DONE)
+            println!(rt; "The report has no fault.")?;
+            Ok(())
         }
-        Checked::Refused(refusal) => {
+        Err(refusal) => {
             faults::print_faults(rt, report, refusal)?;
-            Ok(REFUSED)
+            Err(Stop::Refused)
         }
     }
 }
 
 // Prints the observations of a report, or its refusal.
-pub(crate) fn list(rt: &impl Print, report: &[u8]) -> io::Result<usize> {
-    match report::check(report) {
-        Checked::Accepted(observations) => {
-            print::accepted_line(rt, observations)?;
-            print_list(rt, report)?;
-            Ok(DONE)
-        }
-        Checked::Refused(refusal) => {
-            explain::refused(rt, report, refusal)?;
-            Ok(REFUSED)
-        }
-    }
+pub(crate) fn list(rt: &impl Print, report: &[u8]) -> Result<(), Stop> {
+    let observations = error::explained(rt, report, report::check(report))?;
+    print::accepted_line(rt, observations)?;
+    print_list(rt, report)?;
+    Ok(())
 }

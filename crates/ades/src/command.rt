@@ -5,30 +5,23 @@ ghost use Rattle.inspect.specs.Part.{part_of, marks_in};
 use inspect::part;
 use std::env::{Env, FillError};
 use std::io;
-use text::part::tail;
+use text::part::{front, tail};
 use words::print;
 
 // The byte between two words.
-const PARTING: u8 = 0;
+pub(crate) const PARTING: u8 = 0;
 
-// What gathering the program's arguments came to: a command of so many bytes, or more than there is room for.
-#[derive(Clone, Copy)]
-pub(crate) enum Gathered {
-    Length(usize),
-    TooLong,
-}
-
-// Puts the program's arguments into the space as a command.
-pub(crate) fn gather(rt: &impl Env, space: &mut [u8]) -> Gathered {
+// The program's arguments as a command, put into the space; none where they do not fit.
+pub(crate) fn gather<'a>(rt: &impl Env, space: &'a mut [u8]) -> Option<&'a [u8]> {
     let mut at: usize = 0;
     for number in 1..usize::MAX {
         match put_argument(rt, number, at, space) {
             Ok(end) => at = end,
             Err(FillError::NotPresent) => break,
-            Err(FillError::TooLong) => return Gathered::TooLong,
+            Err(FillError::TooLong) => return None,
         }
     }
-    Gathered::Length(less_one(at))
+    Some(front(space, at.saturating_sub(1)))
 }
 
 // Puts an argument and the byte after it into the space at a place, and says where they end, or that there is no such argument or that
@@ -49,11 +42,6 @@ fn put_argument(
     }
     space[end] = PARTING;
     Ok(end + 1)
-}
-
-// One less; 0 for 0.
-fn less_one(number: usize) -> usize {
-    if number == 0 { 0 } else { number - 1 }
 }
 
 // The word of a number, counted from 0; empty past the last one.
@@ -77,28 +65,19 @@ pub(crate) fn rest(command: &[u8]) -> &[u8] {
 
 // Turns the blanks of a text into the bytes between words.
 pub(crate) fn part_words(text: &mut [u8]) {
-    let mut i: usize = 0;
-    while i < text.len() {
-        text[i] = parted(text[i]);
-        i += 1;
+    for byte in text {
+        if *byte == b' ' {
+            *byte = PARTING;
+        }
     }
-}
-
-// The byte between words for a blank; any other byte as it is.
-fn parted(byte: u8) -> u8 {
-    if byte == b' ' { PARTING } else { byte }
 }
 
 // Prints a command as it was given.
 pub(crate) fn echo(rt: &impl Print, command: &[u8]) -> io::Result<()> {
-    let words = arguments(command);
-    let mut k: usize = 0;
-    print::bytes(rt, b"ades ")?;
-    print::bytes(rt, word(command, 0))?;
-    while k < words {
-        k += 1;
-        print::bytes(rt, b" ")?;
-        print::bytes(rt, word(command, k))?;
+    print!(rt; "ades")?;
+    for word in command.split(|byte| *byte == PARTING) {
+        print!(rt; " ")?;
+        print::bytes(rt, word)?;
     }
     print::line_end(rt)
 }

@@ -3,17 +3,14 @@ use crate::command::word;
 use crate::file::SPACE;
 use crate::packing::pack_into;
 use crate::sources;
-use crate::sources::{Joined, NAMES};
-use std::io;
+use crate::status::Stop;
+use report::ROW_LIMIT;
 use std::rt::Runtime;
-use text::part::front;
 
 // Obeys `join OUT FILE..`.
-pub(crate) fn obey(rt: &impl Runtime, command: &[u8]) -> io::Result<usize> {
+pub(crate) fn obey(rt: &impl Runtime, command: &[u8]) -> Result<(), Stop> {
     let mut space = [0u8; SPACE];
-    let mut ends = [0usize; NAMES];
-    match sources::read(rt, command, &mut space, &mut ends)? {
-        Joined::Till(length) => pack_into(rt, word(command, 1), front(&space, length)),
-        Joined::Failed(status) => Ok(status),
-    }
+    let mut lengths = [0usize; ROW_LIMIT];
+    let sources = sources::read(rt, command, &mut space, &mut lengths)?;
+    pack_into(rt, word(command, 1), sources.texts)
 }

@@ -20,9 +20,7 @@ mod status;
 mod valuing;
 mod version;
 
-use command::Gathered;
 use std::io;
-use text::part::front;
 
 // The room for the words of a command.
 const SPACE: usize = 65536;
@@ -30,7 +28,7 @@ const SPACE: usize = 65536;
 fn main(rt: HostRuntime) -> io::Result<()> {
     let mut space = [0u8; SPACE];
     match command::gather(&rt, &mut space) {
-        Gathered::Length(length) => script::start(&rt, front(&space, length)),
-        Gathered::TooLong => error::tell(&rt, b"the words of the command are too long"),
+        Some(command) => script::start(&rt, command),
+        None => error::tell(&rt, "the words of the command are too long"),
     }
 }

@@ -1,38 +1,33 @@
 // What a command asks for: an element of an observation, as a person names them.
 use crate::command::word;
 use crate::error;
+use crate::status::Stop;
+use answers::shown::Asked;
 use explain::names::print_hint;
-use std::io;
-use words::number::Number;
-
-// An observation and an element by their numbers, or words that name none, which has been told.
-#[derive(Clone, Copy)]
-pub(crate) enum Request {
-    Of(usize, usize),
-    Wrong,
-}
 
 // What the third and the fourth word of a command ask for.
-pub(crate) fn asked(rt: &impl Print, command: &[u8]) -> io::Result<Request> {
-    match words::number::read(word(command, 2)) {
-        Number::Is(observation) => element_of(rt, observation as usize, word(command, 3)),
-        Number::Nothing => {
-            error::tell_about(rt, b"an observation is a number, not ", word(command, 2))?;
-            Ok(Request::Wrong)
-        }
-    }
+pub(crate) fn asked(rt: &impl Print, command: &[u8]) -> Result<Asked, Stop> {
+    let observation = word(command, 2);
+    let Some(number) = words::number::read(observation) else {
+        error::tell_about(rt, "an observation is a number, not ", observation)?;
+        return Err(Stop::Failed);
+    };
+    let element = element_of(rt, word(command, 3))?;
+    Ok(Asked {
+        observation: number as usize,
+        element,
+    })
 }
 
-// An element of an observation, by number or by name.
-fn element_of(rt: &impl Print, observation: usize, word: &[u8]) -> io::Result<Request> {
-    if let Number::Is(element) = words::number::read(word) {
-        return Ok(Request::Of(observation, element as usize));
+// The number of an element, as a number that may be no element's, or by its name.
+fn element_of(rt: &impl Print, word: &[u8]) -> Result<usize, Stop> {
+    if let Some(number) = words::number::read(word) {
+        return Ok(number as usize);
     }
-    let element = element::name::number(word);
-    if element == 0 {
-        error::tell_about(rt, b"no element is called ", word)?;
-        print_hint(rt, word)?;
-        return Ok(Request::Wrong);
+    if let Some(number) = element::name::number(word) {
+        return Ok(number);
     }
-    Ok(Request::Of(observation, element))
+    error::tell_about(rt, "no element is called ", word)?;
+    print_hint(rt, word)?;
+    Err(Stop::Failed)
 }

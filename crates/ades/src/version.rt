@@ -7,14 +7,8 @@ use words::print;
 // Obeys `version`.
 pub(crate) fn obey(rt: &impl Print) -> io::Result<()> {
     print::version(rt)?;
-    print::bytes(
-        rt,
-        b"\nADES pipe-separated text, edition 2022, optical and radar observations. Elements: ",
-    )?;
-    print::number(rt, ELEMENTS as u64)?;
-    print::bytes(rt, b". Limits of a report: ")?;
-    print::number(rt, TEXT_LIMIT as u64)?;
-    print::bytes(rt, b" bytes, ")?;
-    print::number(rt, ROW_LIMIT as u64)?;
-    print::bytes(rt, b" observations.\n")
+    println!(rt;
+        "\nADES pipe-separated text, edition 2022, optical and radar observations. Elements: {ELEMENTS}. \
+         Limits of a report: {TEXT_LIMIT} bytes, {ROW_LIMIT} observations."
+    )
 }

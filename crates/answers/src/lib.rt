@@ -5,4 +5,5 @@ pub mod list;
 pub mod packed;
 pub mod records;
 pub mod shown;
+mod told;
 pub mod valued;

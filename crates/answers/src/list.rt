@@ -2,7 +2,6 @@
 use element::ELEMENTS;
 use explain::elements::print_name;
 use inspect::{ENTRIES, ROWS};
-use report::answer::Checked;
 use report::index::{index, value_of};
 use std::io;
 use words::print;
@@ -12,31 +11,17 @@ pub fn print_list(rt: &impl Print, report: &[u8]) -> io::Result<()> {
     let mut sets = [0u64; ROWS];
     let mut starts = [0u16; ENTRIES];
     let mut lengths = [0u16; ENTRIES];
-    if let Checked::Accepted(count) = index(report, 0, &mut sets, &mut starts, &mut lengths) {
-        list_rows(rt, report, count, &sets, &starts, &lengths)?;
+    if let Ok(count) = index(report, 0, &mut sets, &mut starts, &mut lengths) {
+        for row in 0..count {
+            println!(rt; "observation {}", row + 1)?;
+            print_row(rt, report, row, &sets, &starts, &lengths)?;
+        }
     }
     Ok(())
 }
 
-// Prints so many observations, one after the other.
-fn list_rows(
-    rt: &impl Print,
-    report: &[u8],
-    count: usize,
-    sets: &[u64],
-    starts: &[u16],
-    lengths: &[u16],
-) -> io::Result<()> {
-    let mut row: usize = 0;
-    while row < count {
-        list_row(rt, report, row, sets, starts, lengths)?;
-        row += 1;
-    }
-    Ok(())
-}
-
-// Prints an observation: the present elements, each with its value.
-fn list_row(
+// Prints the present elements of an observation, each with its value.
+fn print_row(
     rt: &impl Print,
     report: &[u8],
     row: usize,
@@ -44,38 +29,20 @@ fn list_row(
     starts: &[u16],
     lengths: &[u16],
 ) -> io::Result<()> {
-    let mut element: usize = 0;
-    print_heading(rt, row)?;
-    while element < ELEMENTS {
-        print_value(
-            rt,
-            element,
-            value_of(report, sets, starts, lengths, row, element),
-        )?;
-        element += 1;
+    for element in 0..ELEMENTS {
+        let value = value_of(report, sets, starts, lengths, row, element);
+        if !value.is_empty() {
+            print_value(rt, element + 1, value)?;
+        }
     }
     Ok(())
 }
 
-// Prints the number of an observation, counted from 1.
-fn print_heading(rt: &impl Print, row: usize) -> io::Result<()> {
-    if row < ROWS {
-        print::between(rt, b"observation ", row as u64 + 1, b"\n")?;
-    }
-    Ok(())
-}
-
-// Prints an element's name and its value; nothing where it is absent.
+// Prints an element's name and its value.
 fn print_value(rt: &impl Print, element: usize, value: &[u8]) -> io::Result<()> {
-    if value.len() == 0 {
-        return Ok(());
-    }
-    if element < ELEMENTS {
-        print::bytes(rt, b"  ")?;
-        print_name(rt, element + 1)?;
-        print::bytes(rt, b" ")?;
-        print::bytes(rt, value)?;
-        print::line_end(rt)?;
-    }
-    Ok(())
+    print!(rt; "  ")?;
+    print_name(rt, element)?;
+    print!(rt; " ")?;
+    print::bytes(rt, value)?;
+    print::line_end(rt)
 }

@@ -1,43 +1,40 @@
 // A value's own bytes.
+use crate::told::Counted;
 use explain::elements::print_name;
 use std::io;
+use text::lines::Span;
 use words::print;
 
-// Prints the value of an element of an observation, and where it lies in the report.
-pub fn print_shown(
-    rt: &impl Print,
-    report: &[u8],
-    observation: usize,
-    element: usize,
-    start: usize,
-    length: usize,
-) -> io::Result<()> {
-    print::bytes(rt, b"shown ")?;
-    print::bytes(rt, report::shown(report, observation, element))?;
-    print::line_end(rt)?;
-    print_asked(rt, observation, element)?;
-    print_length(rt, length)?;
-    print::between(rt, b" after the first ", start as u64, b" of the report.\n")
+// An element of an observation, both by number.
+#[derive(Clone, Copy)]
+pub struct Asked {
+    pub observation: usize,
+    pub element: usize,
 }
 
-// Prints how many bytes a value has.
-fn print_length(rt: &impl Print, length: usize) -> io::Result<()> {
-    if length == 1 {
-        print::bytes(rt, b": 1 byte")
-    } else {
-        print::between(rt, b": ", length as u64, b" bytes")
-    }
+// Prints the value of an element of an observation, and where it lies in the report.
+pub fn print_shown(rt: &impl Print, report: &[u8], asked: Asked, value: Span) -> io::Result<()> {
+    let start = value.start;
+    let bytes = Counted {
+        number: value.length,
+        name: "byte",
+    };
+    print!(rt; "shown ")?;
+    print::bytes(rt, report::shown(report, asked.observation, asked.element))?;
+    print::line_end(rt)?;
+    print_asked(rt, asked)?;
+    println!(rt; ": {bytes} after the first {start} of the report.")
 }
 
 // Prints that an observation has no such element.
-pub fn print_absent(rt: &impl Print, observation: usize, element: usize) -> io::Result<()> {
-    print::bytes(rt, b"absent\n")?;
-    print_asked(rt, observation, element)?;
-    print::bytes(rt, b" is not there.\n")
+pub fn print_absent(rt: &impl Print, asked: Asked) -> io::Result<()> {
+    println!(rt; "absent")?;
+    print_asked(rt, asked)?;
+    println!(rt; " is not there.")
 }
 
 // Prints `NAME of observation N`.
-pub(crate) fn print_asked(rt: &impl Print, observation: usize, element: usize) -> io::Result<()> {
-    print_name(rt, element)?;
-    print::between(rt, b" of observation ", observation as u64, b"")
+pub(crate) fn print_asked(rt: &impl Print, asked: Asked) -> io::Result<()> {
+    print_name(rt, asked.element)?;
+    print!(rt; " of observation {}", asked.observation)
 }

@@ -1,55 +1,35 @@
 // A value as an exact number.
-use crate::shown::print_asked;
-use report::answer::Valued;
+use crate::shown::{Asked, print_asked};
 use std::io;
+use value::Value;
 use words::print;
 
 // Prints the value of an element of an observation, and what its numbers mean.
-pub fn print_valued(
-    rt: &impl Print,
-    answer: Valued,
-    observation: usize,
-    element: usize,
-) -> io::Result<()> {
-    print::value_line(rt, answer)?;
-    print_asked(rt, observation, element)?;
-    print_meaning(rt, answer)
-}
-
-// Prints what the numbers of a value mean.
-fn print_meaning(rt: &impl Print, answer: Valued) -> io::Result<()> {
-    match answer {
-        Valued::Whole(_) => print::bytes(rt, b": a whole number.\n"),
-        Valued::Decimal(_, _) => print::bytes(
-            rt,
-            b": its digits as a whole number, and how many of them are places.\n",
-        ),
-        Valued::Time(_, _) => print::bytes(
-            rt,
-            b": the day, 0 on 1858-11-17, and the microseconds of the day.\n",
-        ),
-        Valued::Angle(_) => print::bytes(rt, b": in units of 0.000000001 degree.\n"),
-        Valued::Scaled(negative, high, low, power) => print_scaled(rt, negative, high, low, power),
-        Valued::Absent => print::bytes(rt, b" is not there.\n"),
-        Valued::NoValue => print::bytes(rt, b" has no value as a number.\n"),
-        Valued::Refused(_) => Ok(()),
+pub fn print_valued(rt: &impl Print, value: Option<Value>, asked: Asked) -> io::Result<()> {
+    print::value_line(rt, Ok(value))?;
+    print_asked(rt, asked)?;
+    match value {
+        Some(value) => print_meaning(rt, value),
+        None => println!(rt; " is not there."),
     }
 }
 
-// Prints a whole number times a power of ten, and what they are.
-fn print_scaled(
-    rt: &impl Print,
-    negative: bool,
-    high: u64,
-    low: u64,
-    power: i64,
-) -> io::Result<()> {
-    print::bytes(rt, b": ")?;
-    print::in_parts(rt, negative, high, low)?;
-    print::bytes(rt, b" x 10^")?;
-    print::signed(rt, power)?;
-    print::bytes(
-        rt,
-        b", its digits as a whole number times a power of ten.\n",
-    )
+// Prints what the numbers of a value mean.
+fn print_meaning(rt: &impl Print, value: Value) -> io::Result<()> {
+    match value {
+        Value::Whole(_) => println!(rt; ": a whole number."),
+        Value::Decimal(_, _) => println!(rt;
+            ": its digits as a whole number, and how many of them are places."
+        ),
+        Value::Time(_, _) => println!(rt;
+            ": the day, 0 on 1858-11-17, and the microseconds of the day."
+        ),
+        Value::Angle(_) => println!(rt; ": in units of 0.000000001 degree."),
+        Value::Scaled(negative, high, low, power) => {
+            print!(rt; ": ")?;
+            print::in_parts(rt, negative, high, low)?;
+            println!(rt; " x 10^{power}, its digits as a whole number times a power of ten.")
+        }
+        Value::NoValue => println!(rt; " has no value as a number."),
+    }
 }

@@ -1,32 +1,33 @@
 -- Laws of the comparison: one for each step and each end of its two loops.
-use Prim.Native.Nat.{ℕ, zero, suc, ◌+◌, ◌-◌, ◌*◌, ◌≤◌, ◌<◌}
-use mathlib.Core.Path.{◌≡◌, refl, sym, ◌∙◌}
+use Prim.Native.Nat.{ℕ, zero, suc, ◌+◌, ◌-◌, ◌≤◌, ◌<◌}
+use mathlib.Core.Path.{◌≡◌, refl, sym, ap, ◌∙◌}
 use mathlib.Core.Bool.{Bool, true, false}
 use mathlib.Core.List.{List, [], ◌∷◌}
 use native.Mathlib.Numerals.{add-one}
 use native.Mathlib.Omega.{arith}
-use lib.ListN.{length, drop, get_or, replicate, drop_of_length-le, length-replicate}
+use lib.ListN.{length, drop, get_or, drop_of_length-le}
 use lib.Seq.{drop-cons}
 use borrow.Author.Tests.{eq-eqb, ne_eqb}
+use native.Mathlib.Decide.{dec_le}
+use Rattle.std.specs.Prelude.{Option, Some, None, is_some, min}
+use Rattle.text.specs.Numbered.{numbered}
 use Rattle.text.specs.Part.{same}
-use Rattle.refusal.specs.declared.Refusal.{Refusal}
 use Rattle.element.specs.Table.{elements}
 use Rattle.element.specs.Observation.{Observation}
-use Rattle.report.specs.Report.{accepted, refused, read, row_limit}
-use Rattle.report.specs.Index.{Index, Noted, noted_value, room_in, IndexIs}
-use Rattle.report.specs.declared.answer.Checked.{Checked}
-use Rattle.report.proofs.AnswerLaws.{accepted_of}
+use Rattle.report.specs.Report.{accepted, read, row_limit}
+use Rattle.report.specs.Index.{Index, Noted, noted_value}
 use Rattle.report.proofs.IndexLaws.{noted_value_lem}
-use Rattle.comparison.specs.declared.Compared.TheVariants.{Same, Differ, FirstRefused, SecondRefused}
+use Rattle.comparison.specs.declared.Compared.TheVariants.{Same, Differ}
 use Rattle.comparison.specs.Comparison.{differs_from, first_element, first_difference, compared_of}
 use Rattle.comparison.specs.Steps.{observations_of, NotesAll}
 
 -- Element by element.
 
-pub differs_start : (first second : ℕ → List ℕ) → differs_from elements 0 first second ≡ differs_from (elements - 0) 0 first second
-differs_start first second = refl
+-- What is left of the elements decides.
+abbrev pub Undecided : (ℕ → List ℕ) → (ℕ → List ℕ) → ℕ → Type 0
+Undecided first second element = differs_from elements 0 first second ≡ differs_from (elements - element) element first second
 
-module _ (first second : ℕ → List ℕ) (element : ℕ) (inv : differs_from elements 0 first second ≡ differs_from (elements - element) element first second) where
+module _ (first second : ℕ → List ℕ) (element : ℕ) (inv : Undecided first second element) where
   one_less : element < elements → elements - element ≡ suc (elements - (element + 1))
   one_less h = omega arith
 
@@ -35,19 +36,19 @@ module _ (first second : ℕ → List ℕ) (element : ℕ) (inv : differs_from e
     values t e = rw (← p, ← q) e
 
     -- The values are the same: those of the elements after it decide.
-    pub differs_on : same v w ≡ true → differs_from elements 0 first second ≡ differs_from (elements - (element + 1)) (element + 1) first second
+    pub differs_on : same v w ≡ true → Undecided first second (element + 1)
     unfolding differs_from
     differs_on e = inv ∙ rw (one_less h, values true e)
 
     -- They differ.
-    pub differs_here : same v w ≡ false → element + 1 ≡ differs_from elements 0 first second
+    pub differs_here : same v w ≡ false → Some (element + 1) ≡ numbered (differs_from elements 0 first second)
     unfolding differs_from
-    differs_here e = sym (inv ∙ rw (one_less h, values false e))
+    differs_here e = rw (inv, one_less h, values false e, add-one element)
 
   -- No element is left.
-  pub differs_end : elements ≤ element → 0 ≡ differs_from elements 0 first second
+  pub differs_end : elements ≤ element → None ≡ numbered (differs_from elements 0 first second)
   unfolding differs_from
-  differs_end h = let z : elements - element ≡ 0 = omega arith in sym (inv ∙ rw z)
+  differs_end h = let z : elements - element ≡ 0 = omega arith in rw (inv, z)
 
 -- The same values differ in the same element.
 differs_same : (left index : ℕ) (f f' g g' : ℕ → List ℕ) → ((e : ℕ) → e < index + left → f e ≡ f' e) → ((e : ℕ) → e < index + left → g e ≡ g' e)
@@ -56,6 +57,15 @@ unfolding differs_from
 differs_same zero index f f' g g' p q = refl
 differs_same (suc left) index f f' g g' p q =
     rw (p index (omega arith), q index (omega arith), differs_same left (index + 1) f f' g g' (λ e h. p e (omega arith)) (λ e h. q e (omega arith)))
+
+-- Whether there is a number.
+some_above : (n : ℕ) (d : Option ℕ) → d ≡ numbered n → is_some d ≡ true → n ≡ 0 → ⊥
+some_above zero d e z h = let q : is_some (numbered 0) ≡ true = rw e at z in absurd (let y : ◌≡◌ {A = ℕ} 0 1 = cc in omega arith)
+some_above (suc n) d e z h = omega arith
+
+none_zero : (n : ℕ) (d : Option ℕ) → d ≡ numbered n → is_some d ≡ false → n ≡ 0
+none_zero zero d e z = refl
+none_zero (suc n) d e z = let q : is_some (numbered (suc n)) ≡ false = rw e at z in absurd (let y : ◌≡◌ {A = ℕ} 0 1 = cc in omega arith)
 
 -- Row by row.
 
@@ -103,64 +113,39 @@ module _ (t u : List ℕ) where
       second_none : m ≤ row → drop row (observations_of (read u)) ≡ []
       second_none h = drop_of_length-le (observations_of (read u)) {i = row} (omega (arith, second_long))
 
-      -- The second list ends first.
-      pub second_ends : row < n → m ≤ row → Differ (row + 1) 0 ≡ compared_of (read t) (read u)
+      -- One list ends first.
+      pub one_ends : (both : ℕ) → both ≡ min n m → row ≡ both → (n ≡ m → ⊥) → Differ (both + 1) None ≡ compared_of (read t) (read u)
       unfolding first_difference
-      second_ends h k = sym (inv ∙ rw (first_cons h, second_none k))
-
-      -- The first does.
-      pub first_ends : n ≤ row → row < m → Differ (row + 1) 0 ≡ compared_of (read t) (read u)
-      unfolding first_difference
-      first_ends h k = sym (inv ∙ rw (first_none h, second_cons k))
+      one_ends both e q z = ap (λ (k : ℕ). Differ (k + 1) None) (sym q) ∙ go (dec_le n m)
+        where
+          go : Dec (n ≤ m) → Differ (row + 1) None ≡ compared_of (read t) (read u)
+          go (yes h) = sym (inv ∙ rw (first_none (omega arith), second_cons (omega arith)))
+          go (no h) = sym (inv ∙ rw (first_cons (omega arith), second_none (omega arith)))
 
       -- Both do.
-      pub both_end : n ≤ row → m ≤ row → Same row ≡ compared_of (read t) (read u)
+      pub both_end : row ≡ min n m → n ≡ m → Same n ≡ compared_of (read t) (read u)
       unfolding first_difference
-      both_end h k = sym (inv ∙ rw (first_none h, second_none k))
+      both_end e z = let q : n ≡ row = omega arith in ap Same q ∙ sym (inv ∙ rw (first_none (omega arith), second_none (omega arith)))
 
-      module _ (h : row < n) (k : row < m) (d : ℕ) (e : d ≡ differs_from elements 0 (noted_value t x row) (noted_value u y row)) where
-        element_is : d ≡ first_element (get_or (observations_of (read t)) row []) (get_or (observations_of (read u)) row [])
+      module _ (h : row < n) (k : row < m) (d : Option ℕ) (e : d ≡ numbered (differs_from elements 0 (noted_value t x row) (noted_value u y row))) where
+        element_is : differs_from elements 0 (noted_value t x row) (noted_value u y row)
+            ≡ first_element (get_or (observations_of (read t)) row []) (get_or (observations_of (read u)) row [])
         unfolding first_element
-        element_is = e ∙ differs_same elements 0 _ _ _ _ (λ i l. row_noted a row h i (omega arith)) (λ i l. row_noted b row k i (omega arith))
+        element_is = differs_same elements 0 _ _ _ _ (λ i l. row_noted a row h i (omega arith)) (λ i l. row_noted b row k i (omega arith))
+
+        number_is : d ≡ numbered (first_element (get_or (observations_of (read t)) row []) (get_or (observations_of (read u)) row []))
+        number_is = e ∙ ap numbered element_is
 
         -- A row differs.
-        pub rows_differ : (d ≡ 0 → ⊥) → Differ (row + 1) d ≡ compared_of (read t) (read u)
+        pub rows_differ : is_some d ≡ true → Differ (row + 1) d ≡ compared_of (read t) (read u)
         unfolding first_difference
-        rows_differ z = sym (inv ∙ rw (first_cons h, second_cons k, ← element_is, ne_eqb d 0 z))
+        rows_differ z =
+            ap (Differ (row + 1)) number_is
+            ∙ sym (inv ∙ rw (first_cons h, second_cons k, ne_eqb (first_element (get_or (observations_of (read t)) row []) (get_or (observations_of (read u)) row [])) 0 (some_above _ d number_is z)))
 
         -- A row is the same in both.
-        pub rows_on : d ≡ 0 → Left (row + 1)
+        pub rows_on : is_some d ≡ false → Left (row + 1)
         unfolding first_difference
-        rows_on z = inv ∙ rw (first_cons h, second_cons k, ← element_is, eq-eqb d 0 z, add-one row)
-
--- The indexes.
-
--- How many rows and entries the lists have.
-abbrev pub rows : ℕ
-rows = row_limit + 1
-
-abbrev pub entries : ℕ
-entries = rows * elements
-
--- Lists of those lengths have room for every row of a report.
-room_of : (sets starts lengths : List ℕ) → length sets ≡ rows → length starts ≡ entries → length lengths ≡ entries → room_in sets starts lengths ≡ row_limit
-room_of sets starts lengths a b c = rw (a, b, c)
-
--- A list of zeros is as long as it was made.
-pub zeros_long : (count : ℕ) → length {A = ℕ} (replicate count 0) ≡ count
-zeros_long count = length-replicate {A = ℕ} count 0
-
-pub room_all : room_in (replicate rows 0) (replicate entries 0) (replicate entries 0) ≡ row_limit
-room_all = room_of (replicate rows 0) (replicate entries 0) (replicate entries 0) (zeros_long rows) (zeros_long entries) (zeros_long entries)
-
--- So an index of them notes every row.
-pub noted_all : {t : List ℕ} {room : ℕ} {x : Index} {r : Checked} → IndexIs t 0 room x r → room ≡ row_limit → length x.sets ≡ rows
-    → length x.starts ≡ entries → length x.lengths ≡ entries → {k : ℕ} → r ≡ Checked.Accepted k → NotesAll t x k
-noted_all i z a b c e = record { accepts = rw z at (accepted_of i e); holds = omega arith }
-
--- The first text is refused, or else the second is.
-pub first_refused : (t u : List ℕ) {z : Refusal} → read t ≡ refused z → FirstRefused z ≡ compared_of (read t) (read u)
-first_refused t u e = rw e
-
-pub second_refused : {t : List ℕ} {x : Index} {n : ℕ} → NotesAll t x n → (u : List ℕ) {z : Refusal} → read u ≡ refused z → SecondRefused z ≡ compared_of (read t) (read u)
-second_refused a u e = rw (a.accepts.is, e)
+        rows_on z =
+            inv
+            ∙ rw (first_cons h, second_cons k, eq-eqb (first_element (get_or (observations_of (read t)) row []) (get_or (observations_of (read u)) row [])) 0 (none_zero _ d number_is z), add-one row)

@@ -7,6 +7,7 @@ use lib.Dec.{eqb}
 use lib.ListN.{length, get_or}
 use lib.Seq.{ext_get_or}
 use borrow.Author.Tests.{eq-eqb, eqb-true, eqb-false}
+use Rattle.text.specs.Numbered.{numbered}
 use Rattle.text.specs.Part.{same}
 use Rattle.text.proofs.Bools.{bools}
 use Rattle.text.proofs.Parts.{same_is, same_refl}
@@ -56,7 +57,7 @@ lists_same before n (a ∷ xs) (b ∷ ys) h k e =
     let i = lists_same (before + 1) n xs ys h.1 k.1 (rw q at e) in
     let p : a ≡ b = element_none a b h.0 k.0 (eqb-true (first_element a b) 0 q) in
     (ap (λ (x : Observation). x ∷ xs) p ∙ ap (λ (x : List Observation). b ∷ x) i.0, omega (arith, i.1)))
-    (λ q. absurd (let d : Differ (before + 1) (first_element a b) ≡ Same n = rw q at e in let z : ◌≡◌ {A = ℕ} 0 1 = cc in omega arith))
+    (λ q. absurd (let d : Differ (before + 1) (numbered (first_element a b)) ≡ Same n = rw q at e in let z : ◌≡◌ {A = ℕ} 0 1 = cc in omega arith))
 
 -- A list has no difference from itself.
 list_self : (before : ℕ) (xs : List Observation) → first_difference before xs xs ≡ Same (before + length xs)

@@ -1,5 +1,6 @@
 -- Two texts compared by the observations that they read as.
-use Rattle.std.specs.Prelude.{ℕ, zero, suc, ◌+◌, cond, List, [], ◌∷◌, eqb, get_or}
+use Rattle.std.specs.Prelude.{ℕ, zero, suc, ◌+◌, cond, List, [], ◌∷◌, eqb, get_or, None}
+use Rattle.text.specs.Numbered.{numbered}
 use Rattle.text.specs.Part.{same}
 use Rattle.element.specs.Table.{elements}
 use Rattle.element.specs.Observation.{Observation}
@@ -18,13 +19,13 @@ unfoldable pub first_element : Observation → Observation → ℕ
 first_element first second = differs_from elements 0 (λ index. get_or first index []) (λ index. get_or second index [])
 
 -- Two lists of observations after so many that are the same: the first observation in which they differ, counted from 1, with the number of
--- its first element that differs, 0 where one list ends before it.
+-- its first element that differs, none where one list ends before it.
 unfoldable pub first_difference : ℕ → List Observation → List Observation → Compared
 first_difference before [] [] = Same before
-first_difference before [] (b ∷ second) = Differ (before + 1) 0
-first_difference before (a ∷ first) [] = Differ (before + 1) 0
+first_difference before [] (b ∷ second) = Differ (before + 1) None
+first_difference before (a ∷ first) [] = Differ (before + 1) None
 first_difference before (a ∷ first) (b ∷ second) =
-    cond (eqb (first_element a b) 0) (first_difference (before + 1) first second) (Differ (before + 1) (first_element a b))
+    cond (eqb (first_element a b) 0) (first_difference (before + 1) first second) (Differ (before + 1) (numbered (first_element a b)))
 
 -- What comparing comes to, from what the two texts read as: the refusal of the first, or else of the second, or else their difference.
 abbrev pub compared_of : Outcome → Outcome → Compared

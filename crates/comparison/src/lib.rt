@@ -2,6 +2,7 @@
 #![tactic(auto)]
 
 ghost use Rattle.std.specs.Prelude.{◌≡◌, ◌<◌};
+ghost use Rattle.text.specs.Numbered.{numbered};
 ghost use Rattle.element.specs.Table.{elements};
 ghost use Rattle.report.specs.Report.{read as read_of};
 ghost use Rattle.report.specs.Index.{lent, noted_value};
@@ -11,17 +12,16 @@ ghost use Rattle.comparison.specs.Steps.{NotesAll};
 use element::ELEMENTS;
 use inspect::{ENTRIES, ROWS};
 use refusal::Refusal;
-use report::answer::Checked;
 use report::index::{index, value_of};
 use text::part::same;
 
 // What comparing two texts comes to: the same list of so many observations; the first observation in which they differ, counted from 1, and
-// the number of the first element whose values differ there, 0 where one list ends before it; or the refusal of the first text, or else of
-// the second.
+// the number of the first element whose values differ there, none where one list ends before it; or the refusal of the first text, or else
+// of the second. These are four outcomes and no answer with a refusal, since either text may be refused.
 #[derive(Clone, Copy)]
 pub enum Compared {
     Same(usize),
-    Differ(usize, usize),
+    Differ(usize, Option<usize>),
     FirstRefused(Refusal),
     SecondRefused(Refusal),
 }
@@ -34,8 +34,8 @@ pub fn compare(first: &[u8], second: &[u8]) -> Compared
     let mut starts = [0u16; ENTRIES];
     let mut lengths = [0u16; ENTRIES];
     match index(first, 0, &mut sets, &mut starts, &mut lengths) {
-        Checked::Accepted(count) => compare_second(first, &sets, &starts, &lengths, count, second),
-        Checked::Refused(refusal) => Compared::FirstRefused(refusal),
+        Ok(count) => compare_second(first, &sets, &starts, &lengths, count, second),
+        Err(refusal) => Compared::FirstRefused(refusal),
     }
 }
 
@@ -61,7 +61,7 @@ fn compare_second(
         &mut second_starts,
         &mut second_lengths,
     ) {
-        Checked::Accepted(second_count) => compare_rows(
+        Ok(second_count) => compare_rows(
             first,
             sets,
             starts,
@@ -73,7 +73,7 @@ fn compare_second(
             &second_lengths,
             second_count,
         ),
-        Checked::Refused(refusal) => Compared::SecondRefused(refusal),
+        Err(refusal) => Compared::SecondRefused(refusal),
     }
 }
 
@@ -93,11 +93,8 @@ fn compare_rows(
     requires { NotesAll first.now (lent sets.now starts.now lengths.now) count × NotesAll second.now (lent second_sets.now second_starts.now second_lengths.now) second_count }
     ensures { result ≡ compared_of (read_of first.now) (read_of second.now) }
 {
-    let mut row: usize = 0;
-    while row < count {
-        if second_count <= row {
-            return Compared::Differ(row + 1, 0);
-        }
+    let both = count.min(second_count);
+    for row in 0..both {
         let element = first_differing(
             first,
             sets,
@@ -109,18 +106,18 @@ fn compare_rows(
             second_lengths,
             row,
         );
-        if element != 0 {
+        if element.is_some() {
             return Compared::Differ(row + 1, element);
         }
-        row += 1;
     }
-    if row < second_count {
-        return Compared::Differ(row + 1, 0);
+    if count == second_count {
+        Compared::Same(count)
+    } else {
+        Compared::Differ(both + 1, None)
     }
-    Compared::Same(row)
 }
 
-// The number of the first element whose values, read off two indexes, differ in a row; 0 where none does.
+// The number of the first element whose values, read off two indexes, differ in a row.
 fn first_differing(
     first: &[u8],
     sets: &[u64],
@@ -131,11 +128,10 @@ fn first_differing(
     second_starts: &[u16],
     second_lengths: &[u16],
     row: usize,
-) -> usize
-    ensures { result ≡ differs_from elements 0 (noted_value first.now (lent sets.now starts.now lengths.now) row) (noted_value second.now (lent second_sets.now second_starts.now second_lengths.now) row) }
+) -> Option<usize>
+    ensures { result ≡ numbered (differs_from elements 0 (noted_value first.now (lent sets.now starts.now lengths.now) row) (noted_value second.now (lent second_sets.now second_starts.now second_lengths.now) row)) }
 {
-    let mut element: usize = 0;
-    while element < ELEMENTS {
+    for element in 0..ELEMENTS {
         let value = value_of(first, sets, starts, lengths, row, element);
         let second_value = value_of(
             second,
@@ -145,11 +141,9 @@ fn first_differing(
             row,
             element,
         );
-        if same(value, second_value) {
-            element += 1;
-        } else {
-            return element + 1;
+        if !same(value, second_value) {
+            return Some(element + 1);
         }
     }
-    0
+    None
 }

@@ -24,10 +24,7 @@ pub(crate) fn plan_stretches(marks: &[u8], sets: &[u64], sizes: &[u32], cuts: &m
         bytes += plan.bytes;
         at = end;
     }
-    Plan {
-        blocks: blocks,
-        bytes: bytes,
-    }
+    Plan { blocks, bytes }
 }
 
 // Where the stretch that begins at a row ends: the next row with another mark, or the end of the rows.

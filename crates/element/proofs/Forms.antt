@@ -24,11 +24,6 @@ pub fault_absent : (index : ℕ) → fault_of index [] ≡ Ok tt
 unfolding fault_of
 fault_absent index = refl
 
--- A text of no bytes has no fault.
-pub fault_empty : (index : ℕ) (text : List ℕ) → length text ≡ 0 → fault_of index text ≡ Ok tt
-fault_empty index [] e = fault_absent index
-fault_empty index (b ∷ text) e = absurd (omega arith)
-
 -- A text of some bytes has the fault that its value says.
 pub fault_present : (index : ℕ) (text : List ℕ) → (length text ≡ 0 → ⊥) → fault_of index text ≡ less_value (value_of index text)
 unfolding fault_of

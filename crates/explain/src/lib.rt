@@ -22,12 +22,9 @@ pub fn refused(rt: &impl Print, report: &[u8], refusal: Refusal) -> io::Result<(
 
 // Prints the rule that a refusal of a report stands for, the line and what to do.
 pub fn explain(rt: &impl Print, report: &[u8], refusal: Refusal) -> io::Result<()> {
-    let kind = refusal.kind;
-    let number = refusal.line;
-    refusals::print_rule(rt, kind)?;
-    if 0 < number {
-        places::print_place(rt, report, kind, number - 1, refusal.place)
-    } else {
-        refusals::print_advice(rt, kind)
+    refusals::print_rule(rt, refusal.kind)?;
+    match refusal.line.checked_sub(1) {
+        Some(line) => places::print_place(rt, report, line, refusal),
+        None => refusals::print_advice(rt, refusal.kind),
     }
 }

@@ -2,7 +2,7 @@
 ghost use Rattle.std.specs.Prelude.{◌≤◌};
 
 use std::io;
-use text::lines::is_printable;
+use text::lines::{Span, is_printable};
 use text::part::{front, tail};
 use words::print;
 
@@ -12,17 +12,17 @@ const SHOWN: usize = 100;
 // How many bytes before the mark are shown where the start of the line is not.
 const BEFORE: usize = 40;
 
-// Prints a line, and under it a mark from a place on, so many bytes long and at least one. Of a long line only what is near the mark
-// is printed.
-pub fn print_marked(rt: &impl Print, line: &[u8], from: usize, length: usize) -> io::Result<()> {
-    let first = first_shown(from);
+// Prints a line, and under it a mark under a part, at least one byte long. Of a long line only what is near the mark is printed.
+pub(crate) fn print_marked(rt: &impl Print, line: &[u8], part: Span) -> io::Result<()> {
+    let first = first_shown(part.start);
+    let place = part.start - first;
     print_from(rt, line, first)?;
     print_if(rt, 0 < first, b"   ")?;
-    print_mark(rt, from - first, length)
+    print_mark(rt, place, part.length)
 }
 
 // Prints a line, or the start of a long one.
-pub fn print_line(rt: &impl Print, line: &[u8]) -> io::Result<()> {
+pub(crate) fn print_line(rt: &impl Print, line: &[u8]) -> io::Result<()> {
     print_from(rt, line, 0)
 }
 
@@ -37,11 +37,15 @@ fn first_shown(from: usize) -> usize
     }
 }
 
-// Prints a line from a byte on, with dots for what is left out.
+// Prints a line from a byte on, with dots for what is left out, and `?` for each byte outside 0x20 to 0x7E.
 fn print_from(rt: &impl Print, line: &[u8], first: usize) -> io::Result<()> {
-    let mut space = [0u8; SHOWN];
+    let mut space = [b'?'; SHOWN];
     let rest = tail(line, first);
-    clean(rest, &mut space);
+    for (shown, byte) in space.iter_mut().zip(rest) {
+        if is_printable(*byte) {
+            *shown = *byte;
+        }
+    }
     print_if(rt, 0 < first, b"...")?;
     print::bytes(rt, front(&space, rest.len()))?;
     print_if(rt, SHOWN < rest.len(), b"...")?;
@@ -56,46 +60,8 @@ fn print_if(rt: &impl Print, test: bool, text: &[u8]) -> io::Result<()> {
     Ok(())
 }
 
-// Prints blanks up to a place, and a mark there, so many bytes long and at least one.
+// Prints blanks up to a place, and from there on a mark, so many bytes long, at least one, and not past what is shown.
 fn print_mark(rt: &impl Print, place: usize, length: usize) -> io::Result<()> {
-    let mut space = [0u8; SHOWN];
-    draw(&mut space, place);
-    print::bytes(rt, front(&space, place))?;
-    if length == 0 {
-        print::bytes(rt, b"^\n")
-    } else {
-        print::bytes(rt, front(tail(&space, place), length))?;
-        print::line_end(rt)
-    }
-}
-
-// Copies a line into the space, as much as there is room for, with `?` for each byte outside 0x20 to 0x7E.
-fn clean(line: &[u8], space: &mut [u8]) {
-    let mut i: usize = 0;
-    while i < space.len() {
-        if line.len() <= i {
-            return;
-        }
-        space[i] = printable(line[i]);
-        i += 1;
-    }
-}
-
-// A byte as it is printed.
-fn printable(byte: u8) -> u8 {
-    if is_printable(byte) { byte } else { b'?' }
-}
-
-// Fills the space with blanks up to a place, and with marks from there on.
-fn draw(space: &mut [u8], from: usize) {
-    let mut i: usize = 0;
-    while i < space.len() {
-        space[i] = mark(i, from);
-        i += 1;
-    }
-}
-
-// A blank before the place from which on there is a mark.
-fn mark(place: usize, from: usize) -> u8 {
-    if place < from { b' ' } else { b'^' }
+    let marks = length.min(SHOWN.saturating_sub(place)).max(1);
+    println!(rt; "{:place$}{:^<marks$}", "", "")
 }

@@ -1,5 +1,5 @@
 // What kind of file a name stands for.
-ghost use Rattle.std.specs.Prelude.{◌≡◌, ◌≢◌, ◌↔◌, true, IfOk, OnErr};
+ghost use Rattle.std.specs.Prelude.{◌≡◌, ◌≢◌, ◌↔◌, true, Ok, IfOk, OnErr};
 ghost use Rattle.std.specs.Fs.{file_type, IsFile};
 ghost use Rattle.files.specs.Path.{is_path};
 
@@ -7,7 +7,6 @@ use std::fs::Metadata;
 use std::io::ErrorKind;
 use std::rt::Files;
 use std::{fs, io, str};
-use text::lines::up_to;
 
 // One more than the bytes of the longest path.
 pub(crate) const PATH_MAX: usize = 4096;
@@ -19,21 +18,20 @@ const ENAMETOOLONG: i32 = 36;
 
 const EILSEQ: i32 = 84;
 
-// The kinds that matter to a writer. A link is of another kind, whatever it leads to; Unknown is a file that cannot be looked at, with
-// the system's reason.
+// The kinds that matter to a writer. A link is of another kind, whatever it leads to.
 #[derive(Clone, Copy)]
 pub(crate) enum Kind {
     Missing,
     Regular,
     Other,
-    Unknown(io::Error),
 }
 
-// The kind of the file that a name stands for. Where no file can have the name it is missing.
-pub(crate) fn of_name(rt: &impl Files, name: &[u8]) -> Kind {
+// The kind of the file that a name stands for, or the system's reason for which it cannot be looked at. Where no file can have the
+// name it is missing.
+pub(crate) fn of_name(rt: &impl Files, name: &[u8]) -> io::Result<Kind> {
     match path(name) {
         Ok(path) => kind_of(fs::symlink_metadata(rt, path), name),
-        Err(_) => Kind::Missing,
+        Err(_) => Ok(Kind::Missing),
     }
 }
 
@@ -41,30 +39,28 @@ pub(crate) fn of_name(rt: &impl Files, name: &[u8]) -> Kind {
 fn is_path(name: &[u8]) -> bool
     ensures { result ≡ is_path name.now }
 {
-    let before_zero = up_to(name, 0);
-    (name.len() < PATH_MAX) & (before_zero == name.len())
+    (name.len() < PATH_MAX) & !name.contains(&0)
 }
 
 // The kind that was found of the file of a name.
-fn kind_of(found: io::Result<Metadata>, name: &[u8]) -> Kind
-    ensures found { IfOk found (λ m. (result ≡ Kind.Regular) ↔ IsFile (file_type m)) }
-    ensures unseen { OnErr found (result ≢ Kind.Regular) }
+fn kind_of(found: io::Result<Metadata>, name: &[u8]) -> io::Result<Kind>
+    ensures found { IfOk found (λ m. (result ≡ Ok Kind.Regular) ↔ IsFile (file_type m)) }
+    ensures unseen { OnErr found (result ≢ Ok Kind.Regular) }
 {
     match found {
-        Ok(found) => mode(&found),
+        Ok(found) => Ok(mode(&found)),
         Err(error) => unseen(error, name),
     }
 }
 
 // The kind of a file of the name that could not be looked at. No file has an empty name, and none can be given it.
-fn unseen(error: io::Error, name: &[u8]) -> Kind
-    ensures { result ≢ Kind.Regular }
+fn unseen(error: io::Error, name: &[u8]) -> io::Result<Kind>
+    ensures { result ≢ Ok Kind.Regular }
 {
-    let missing = error.kind() == ErrorKind::NotFound;
-    if missing & (0 < name.len()) {
-        Kind::Missing
+    if error.kind() == ErrorKind::NotFound && !name.is_empty() {
+        Ok(Kind::Missing)
     } else {
-        Kind::Unknown(error)
+        Err(error)
     }
 }
 
@@ -75,10 +71,7 @@ pub(crate) fn path(name: &[u8]) -> io::Result<&str>
     if !is_path(name) {
         return Err(no_path(name));
     }
-    match str::from_utf8(name) {
-        Ok(path) => Ok(path),
-        Err(_) => Err(io::Error::from_raw_os_error(EILSEQ)),
-    }
+    str::from_utf8(name).map_err(|_| io::Error::from_raw_os_error(EILSEQ))
 }
 
 // The system's reason for which a name that no file can have is no path.

@@ -17,17 +17,9 @@ use text::part::same;
 // The longest name that an output may have.
 const LONGEST: usize = 4000;
 
-// What reading came to: so many bytes, or a failure whose reason has been told.
-#[derive(Clone, Copy)]
-pub enum Input {
-    Length(usize),
-    Failed,
-}
-
-// What writing came to. Failed is a failure whose reason has been told; of the others but Written none has touched a file.
-#[derive(Clone, Copy)]
-pub enum Output {
-    Written,
+// Why a text was not written. Failed is a failure whose reason has been told; of the others none has touched a file.
+#[derive(Clone, Copy, PartialEq, Eq)]
+pub enum NotWritten {
     NotRegular,
     PartThere,
     NameTooLong,
@@ -35,32 +27,34 @@ pub enum Output {
     Failed,
 }
 
-// Reads a file, or standard input for `-`, into the space, as much as there is room for. The reason of a failure goes to standard error.
-pub fn read(rt: &(impl Files + io::Input + Eprint + Alloc), name: &[u8], space: &mut [u8]) -> Input
+// Reads a file, or standard input for `-`, into the space, as much as there is room for, and says how many bytes it read; none
+// where it failed, and then the reason has gone to standard error.
+pub fn read(
+    rt: &(impl Files + io::Input + Eprint + Alloc),
+    name: &[u8],
+    space: &mut [u8],
+) -> Option<usize>
     ensures { is_within (length space.old) result ≡ true }
 {
-    if same(name, b"-") {
-        return reading::read_open(rt, &mut rt.reader(), name, space);
-    }
-    match reading::open(rt, name) {
-        Ok(mut file) => reading::read_open(rt, &mut file, name, space),
+    match reading::read(rt, name, space) {
+        Ok(length) => Some(length),
         Err(error) => {
             telling::tell(rt, name, error);
-            Input::Failed
+            None
         }
     }
 }
 
 // Writes a text to a file, under its name and `.part` first, and then renames that; only a regular file is replaced. The reason of a
 // failure goes to standard error.
-pub fn write(rt: &(impl Files + Eprint + Alloc), name: &[u8], text: &[u8]) -> Output
+pub fn write(rt: &(impl Files + Eprint + Alloc), name: &[u8], text: &[u8]) -> Result<(), NotWritten>
     ensures { by_name result ≡ fault_of name.now }
 {
     if same(name, b"-") {
-        return Output::Standard;
+        return Err(NotWritten::Standard);
     }
     if LONGEST < name.len() {
-        return Output::NameTooLong;
+        return Err(NotWritten::NameTooLong);
     }
     writing::replace(rt, name, text)
 }

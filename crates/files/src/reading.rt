@@ -1,37 +1,39 @@
-// An open file read.
-ghost use Rattle.std.specs.Prelude.{◌≡◌, true, length};
-ghost use Rattle.files.specs.Answers.{is_within};
+// A file read.
+ghost use Rattle.std.specs.Prelude.{◌≤◌, length, IfOk};
 
 use crate::kind::path;
-use crate::{Input, telling};
 use std::io::Read;
 use std::rt::Files;
 use std::{fs, io};
+use text::part::same;
 
-// Opens the file of a name for reading.
-pub(crate) fn open<R: Files>(rt: &R, name: &[u8]) -> io::Result<R::File> {
-    fs::open(rt, path(name)?)
-}
-
-// Reads an open file to its end, or until the space is full; the name is told with the reason of a failure.
-pub(crate) fn read_open(
-    rt: &(impl Eprint + Alloc),
-    file: &mut impl Read,
+// Reads a file, or standard input for `-`, to its end, or until the space is full, and says how many bytes it read.
+pub(crate) fn read(
+    rt: &(impl Files + io::Input),
     name: &[u8],
     space: &mut [u8],
-) -> Input
-    ensures { is_within (length space.old) result ≡ true }
+) -> io::Result<usize>
+    ensures { IfOk result (λ n. n ≤ length space.old) }
 {
-    let mut at: usize = 0;
-    while at < space.len() {
-        match file.read(&mut space[at..]) {
-            Ok(0) => return Input::Length(at),
-            Ok(more) => at += more,
-            Err(error) => {
-                telling::tell(rt, name, error);
-                return Input::Failed;
-            }
-        }
+    if same(name, b"-") {
+        return read_open(&mut rt.reader(), space);
     }
-    Input::Length(at)
+    let mut file = fs::open(rt, path(name)?)?;
+    read_open(&mut file, space)
+}
+
+// The same of an open file.
+fn read_open(file: &mut impl Read, space: &mut [u8]) -> io::Result<usize>
+    ensures { IfOk result (λ n. n ≤ length space.old) }
+{
+    let room = space.len();
+    let mut left = space;
+    while !left.is_empty() {
+        let more = file.read(left)?;
+        if more == 0 {
+            break;
+        }
+        left = &mut left[more..];
+    }
+    Ok(room - left.len())
 }

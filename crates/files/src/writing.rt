@@ -1,11 +1,10 @@
 // A file written under another name and then renamed.
-ghost use Rattle.std.specs.Prelude.{◌≡◌, ◌+◌, ◌≤◌, length, take};
-ghost use Rattle.std.proofs.Math.Option.{none};
+ghost use Rattle.std.specs.Prelude.{◌≡◌, ◌+◌, ◌≤◌, length, take, None, Err};
 ghost use Rattle.files.specs.Answers.{by_name, longest};
 ghost use Rattle.files.specs.Part.{part_name};
 
 use crate::kind::{Kind, PATH_MAX, path};
-use crate::{Output, kind, telling};
+use crate::{NotWritten, kind, telling};
 use std::fs::{OpenFile, OpenOptions};
 use std::io::{ErrorKind, Write};
 use std::rt::Files;
@@ -14,22 +13,29 @@ use text::output::put;
 use text::part::front;
 
 // Writes a text to a file that is regular or not there; another is left as it is.
-pub(crate) fn replace(rt: &(impl Files + Eprint + Alloc), name: &[u8], text: &[u8]) -> Output
+pub(crate) fn replace(
+    rt: &(impl Files + Eprint + Alloc),
+    name: &[u8],
+    text: &[u8],
+) -> Result<(), NotWritten>
     requires { length name.now ≤ longest }
-    ensures { by_name result ≡ none }
+    ensures { by_name result ≡ None }
 {
-    let kind = kind::of_name(rt, name);
-    match kind {
-        Kind::Missing | Kind::Regular => write_part(rt, name, text),
-        Kind::Other => Output::NotRegular,
-        Kind::Unknown(error) => failed(rt, name, error),
+    match kind::of_name(rt, name) {
+        Ok(Kind::Missing | Kind::Regular) => write_part(rt, name, text),
+        Ok(Kind::Other) => Err(NotWritten::NotRegular),
+        Err(error) => Err(failed(rt, name, error)),
     }
 }
 
 // Writes a text to a new file, the name with `.part` after it, and then gives it the name.
-fn write_part(rt: &(impl Files + Eprint + Alloc), name: &[u8], text: &[u8]) -> Output
+fn write_part(
+    rt: &(impl Files + Eprint + Alloc),
+    name: &[u8],
+    text: &[u8],
+) -> Result<(), NotWritten>
     requires { length name.now ≤ longest }
-    ensures { by_name result ≡ none }
+    ensures { by_name result ≡ None }
 {
     let mut space = [0u8; PATH_MAX];
     let length = put_part_name(name, &mut space);
@@ -42,20 +48,20 @@ fn write_by_way_of(
     part: &[u8],
     name: &[u8],
     text: &[u8],
-) -> Output
+) -> Result<(), NotWritten>
     requires { part.now ≡ part_name name.now }
-    ensures { by_name result ≡ none }
+    ensures { by_name result ≡ None }
 {
     let file = match create(rt, part) {
         Ok(file) => file,
-        Err(error) => return not_made(rt, part, error),
+        Err(error) => return Err(not_made(rt, part, error)),
     };
     match write_and_rename(rt, file, part, name, text) {
-        Ok(()) => Output::Written,
+        Ok(()) => Ok(()),
         Err(error) => {
-            let output = failed(rt, name, error);
+            let reason = failed(rt, name, error);
             let _ = remove(rt, part);
-            output
+            Err(reason)
         }
     }
 }
@@ -86,21 +92,21 @@ fn remove(rt: &impl Files, name: &[u8]) -> io::Result<()> {
 }
 
 // Why a new file could not be made: a file of that name is there already, or the system has another reason, which is told.
-fn not_made(rt: &(impl Eprint + Alloc), part: &[u8], error: io::Error) -> Output
-    ensures { by_name result ≡ none }
+fn not_made(rt: &(impl Eprint + Alloc), part: &[u8], error: io::Error) -> NotWritten
+    ensures { by_name (Err result) ≡ None }
 {
     if error.kind() == ErrorKind::AlreadyExists {
-        return Output::PartThere;
+        return NotWritten::PartThere;
     }
     failed(rt, part, error)
 }
 
 // Tells the reason of a failure.
-fn failed(rt: &(impl Eprint + Alloc), name: &[u8], error: io::Error) -> Output
-    ensures { by_name result ≡ none }
+fn failed(rt: &(impl Eprint + Alloc), name: &[u8], error: io::Error) -> NotWritten
+    ensures { by_name (Err result) ≡ None }
 {
     telling::tell(rt, name, error);
-    Output::Failed
+    NotWritten::Failed
 }
 
 // Writes a text to an open file and closes it. All of it was taken where that succeeds: what a system would tell at the close it tells

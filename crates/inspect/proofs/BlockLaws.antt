@@ -1,45 +1,14 @@
--- Laws of a text's blocks: one for each step and each end of a loop.
+-- Laws of the rows of a text's blocks: one for each step and each end of the loop that fills them in.
 use Prim.Native.Nat.{ℕ, zero, suc, ◌+◌, ◌-◌, ◌≤◌, ◌<◌}
 use mathlib.Core.Path.{◌≡◌, refl, ap, sym, ◌∙◌}
-use mathlib.Core.Bool.{true, false, ◌&&◌}
 use mathlib.Core.List.{List, [], ◌∷◌, ◌++◌, append_assoc}
 use native.Mathlib.Numerals.{add-one}
 use native.Mathlib.Omega.{arith}
-use lib.Dec.{eqb}
-use lib.ListN.{length, take, drop, get_or, set, drop_of_length-le, length-drop, length-take, length-set, take-append-drop}
-use lib.Seq.{drop-cons, drop-drop, take-suc-set, drop-set-lt}
+use lib.ListN.{length, take, drop, set, length-drop, length-take, length-set, take-append-drop}
+use lib.Seq.{drop-drop, take-suc-set, drop-set-lt}
 use Rattle.text.specs.Output.{over}
-use Rattle.report.specs.Report.{is_hash}
-use Rattle.inspect.specs.Part.{part_start, marks_in}
-use Rattle.inspect.specs.Blocks.{block_length, rows_in, block_rows, block_start, head_length}
-
--- A text begins with `#` from a place on where it has one there.
-hash_at : (s : List ℕ) (j : ℕ) → is_hash (drop j s) ≡ eqb (get_or s j 0) 35
-hash_at [] zero = refl
-hash_at [] (suc j) = refl
-hash_at (b ∷ s) zero = refl
-hash_at (b ∷ s) (suc j) = hash_at s j
-
-module _ (s : List ℕ) (i : ℕ) (inv : block_length s ≡ i + block_length (drop i s)) where
-  module _ (h : i < length s) (next : ℕ) (n : next ≡ get_or s (i + 1) 0) where
-    hash : is_hash (drop (suc i) s) ≡ eqb next 35
-    hash = hash_at s (suc i) ∙ rw (n, add-one i)
-
-    -- A line ends here, and the next one begins with `#`.
-    pub block_here : (eqb (get_or s i 0) 10 && eqb next 35) ≡ true → i + 1 ≡ block_length s
-    unfolding block_length
-    block_here e = let q : block_length (drop i s) ≡ 1 = rw (drop-cons s i 0, hash, e) in omega arith
-
-    pub block_on : (eqb (get_or s i 0) 10 && eqb next 35) ≡ false → block_length s ≡ (i + 1) + block_length (drop (i + 1) s)
-    unfolding block_length
-    block_on e =
-        let q : block_length (drop i s) ≡ suc (block_length (drop (suc i) s)) = rw (drop-cons s i 0, hash, e) in
-        let m : block_length (drop (suc i) s) ≡ block_length (drop (i + 1) s) = rw (add-one i) in
-        omega arith
-
-  pub block_end : length s ≤ i → i ≡ block_length s
-  unfolding block_length
-  block_end h = let q : block_length (drop i s) ≡ 0 = rw drop_of_length-le in omega arith
+use Rattle.inspect.specs.Part.{marks_in}
+use Rattle.inspect.specs.Blocks.{block_length, rows_in, block_rows}
 
 -- The rows of a text that has a block.
 rows_cons : (room : ℕ) (s : List ℕ) → 0 < length s → block_rows (suc room) s ≡ rows_in (take (block_length s) s) ∷ block_rows room (drop (block_length s) s)
@@ -121,25 +90,3 @@ pub fill_room : {text rows₀ rows : List ℕ} {start k : ℕ} → Filling text 
     → (k ≡ length (block_rows (length rows₀) text)) × (rows ≡ over (block_rows (length rows₀) text) rows₀) × (k ≤ length rows)
 fill_room {text} {rows₀} {rows} {start} {k} v h =
     fill_end v (let z : length rows₀ - k ≡ 0 = omega (arith, v.long) in rw z (rows_full (drop start text)))
-
--- The start of the first block, of the next one, and of the one that was looked for.
-pub first_start : (text : List ℕ) → 0 ≡ block_start text 0
-unfolding block_start
-first_start text = refl
-
-pub next_start : (text rest : List ℕ) (k at size : ℕ) → at ≡ block_start text k → rest ≡ drop at text → size ≡ block_length rest
-    → at + size ≡ block_start text (k + 1)
-unfolding block_start
-next_start text rest k at size e r n = rw (add-one, n, r, e)
-
-pub last_start : (text : List ℕ) (k number at : ℕ) → at ≡ block_start text k → k ≤ number → number ≤ k → at ≡ block_start text number
-last_start text k number at e h l = let q : k ≡ number = omega arith in rw (← q) e
-
--- A block ends in the text.
-pub start_within : (text rest : List ℕ) (at size : ℕ) → at ≤ length text → rest ≡ drop at text → size ≤ length rest → at + size ≤ length text
-start_within text rest at size h r n = omega (arith, ap (λ (x : List ℕ). length x) r, length-drop at text)
-
--- The first two lines from a block's start on.
-pub head_is : (text rest : List ℕ) (number at size : ℕ) → at ≡ block_start text number → rest ≡ drop at text → size ≡ part_start rest 2 10
-    → size ≡ head_length text number
-head_is text rest number at size e r n = n ∙ rw (r, e)

@@ -1,5 +1,4 @@
 pub mod BlockLaws
 pub mod LineLaws
-pub mod OddityLaws
 pub mod PartLaws
 pub mod TableLaws

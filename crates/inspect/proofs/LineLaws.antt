@@ -1,7 +1,7 @@
 -- Laws of a line's bytes, its fields by position, and the columns that hold for it.
 use Prim.Native.Nat.{ℕ, zero, suc, ◌+◌, ◌-◌, ◌≤◌, ◌<◌, min}
 use mathlib.Core.Path.{◌≡◌, refl, ap, sym, ◌∙◌}
-use mathlib.Core.Bool.{true, false, cond, ◌&&◌}
+use mathlib.Core.Bool.{true, false}
 use mathlib.Core.List.{List, [], ◌∷◌}
 use native.Mathlib.Nat.{add-zero}
 use native.Mathlib.Numerals.{add-one}
@@ -9,45 +9,15 @@ use native.Mathlib.Omega.{arith}
 use lib.Dec.{eqb, ltb}
 use lib.ListN.{length, take, drop, get_or, drop_of_length-le, length-drop}
 use lib.Seq.{drop-cons, drop-drop, get_or-drop}
-use borrow.Author.Tests.{eq-eqb, ne_eqb, lt-ltb, ltb-true}
-use Rattle.std.specs.Prelude.{Option, Some, None, unwrap_or}
-use Rattle.text.specs.Lines.{is_printable, up_to, fields, into, trim, field_from, FieldAt}
+use borrow.Author.Tests.{eq-eqb, ne_eqb, ltb-true}
+use Rattle.std.specs.Prelude.{Some, unwrap_or}
+use Rattle.text.specs.Lines.{up_to, fields, into, trim, field_from, FieldAt}
 use Rattle.text.specs.Numbered.{numbered}
 use Rattle.text.proofs.Bools.{bools, never}
 use Rattle.text.proofs.LineLaws.{fields_more, fields_first}
-use Rattle.element.specs.Table.{elements, element_number}
+use Rattle.element.specs.Table.{element_number}
 use Rattle.inspect.specs.Part.{after_mark, part_start, marks_in}
-use Rattle.inspect.specs.Line.{
-  printable_front,
-  field_index,
-  field_of,
-  field_start,
-  FieldIs,
-  element_at,
-  column_from,
-  column_of,
-  is_present,
-  present_from,
-  first_present,
-  columns_before,
-}
-use Rattle.inspect.proofs.PartLaws.{start_on}
-
--- Bytes.
-
-module _ (s : List ℕ) (i : ℕ) (inv : printable_front s ≡ i + printable_front (drop i s)) where
-  pub front_on : i < length s → is_printable (get_or s i 0) ≡ true → printable_front s ≡ (i + 1) + printable_front (drop (i + 1) s)
-  unfolding printable_front
-  front_on h e =
-      let q : printable_front (drop i s) ≡ suc (printable_front (drop (i + 1) s)) = rw (add-one, drop-cons s i 0, e) in omega arith
-
-  pub front_here : i < length s → is_printable (get_or s i 0) ≡ false → i ≡ printable_front s
-  unfolding printable_front
-  front_here h e = let q : printable_front (drop i s) ≡ 0 = rw (drop-cons s i 0, e) in omega arith
-
-  pub front_end : length s ≤ i → i ≡ printable_front s
-  unfolding printable_front
-  front_end h = let q : printable_front (drop i s) ≡ 0 = rw drop_of_length-le in omega arith
+use Rattle.inspect.specs.Line.{field_index, field_of, field_start, FieldIs, element_at, column_from, column_of, is_present, present_from, first_present, columns_before}
 
 -- Fields.
 
@@ -128,12 +98,6 @@ unfolding field_index field_of field_start
 field_size {line} {position} f =
     f.place.size_is ∙ ap (λ (x : List ℕ). length (trim x)) (field_from_lem line (field_index line position) (omega (arith, fields_count line)))
 
--- The element that is named there.
-pub element_is : (columns : List ℕ) {position start size till : ℕ} → FieldIs columns position start size till → (rest name : List ℕ)
-    → rest ≡ drop start columns → name ≡ take size rest → element_number name ≡ element_at columns position
-unfolding element_at
-element_is columns f rest name r n = ap element_number (n ∙ rw r f.value)
-
 -- Numbers counted from 1.
 
 pub numbered_some : (n m : ℕ) → 0 < n → n ≡ m → Some n ≡ numbered m
@@ -143,14 +107,6 @@ numbered_some (suc n) m h e = ap numbered e
 pub number_back : (n : ℕ) → unwrap_or (numbered n) 0 ≡ n
 number_back zero = refl
 number_back (suc n) = refl
-
-number_is : (n m : ℕ) → Some n ≡ numbered m → (n ≡ m) × (0 < n)
-number_is n zero e = cc
-number_is n (suc m) e = let same : n ≡ suc m = cc in (same, omega arith)
-
-number_none : (m : ℕ) → None ≡ numbered m → m ≡ 0
-number_none zero e = refl
-number_none (suc m) e = cc
 
 -- Columns.
 
@@ -181,33 +137,13 @@ module _ (columns : List ℕ) (element k : ℕ) (inv : column_of columns element
 
 -- Elements that are present.
 
-pub present_some : (line columns : List ℕ) (element column : ℕ) {start size till : ℕ} → Some column ≡ numbered (column_of columns element)
-    → FieldIs line column start size till → (ltb 0 element && ltb 0 size) ≡ is_present line columns element
-unfolding is_present
-present_some line columns element column e f =
-    let is = number_is column (column_of columns element) e in
-    rw (← is.0, lt-ltb 0 column is.1, field_size f) (bools (ltb 0 element) (λ t. rw t) (λ t. rw t))
-
-pub present_none : (line columns : List ℕ) (element : ℕ) → None ≡ numbered (column_of columns element) → false ≡ is_present line columns element
-unfolding is_present
-present_none line columns element e = rw (number_none (column_of columns element) e) (bools (ltb 0 element) (λ t. rw t) (λ t. rw t))
-
 -- An element that is present has a number.
 pub present_above : (line columns : List ℕ) (element : ℕ) → is_present line columns element ≡ true → 0 < element
 unfolding is_present
 present_above line columns element e = bools (ltb 0 element) (λ t. ltb-true 0 element t) (λ t. never (rw t at e))
 
-pub present_start : (line columns : List ℕ) (first last end : ℕ) → end ≡ min last elements
-    → first_present line columns first last ≡ present_from (end + 1 - first) first line columns
-unfolding first_present
-present_start line columns first last end e = rw e
-
 module _ (line columns : List ℕ) (first last end element : ℕ)
     (inv : first_present line columns first last ≡ present_from (end + 1 - element) element line columns) where
-  pub present_end : end < element → 0 ≡ first_present line columns first last
-  unfolding present_from
-  present_end h = let q : end + 1 - element ≡ 0 = omega arith in sym (inv ∙ rw q)
-
   module _ (h : element ≤ end) where
     pub present_here : is_present line columns element ≡ true → element ≡ first_present line columns first last
     unfolding present_from
@@ -225,21 +161,3 @@ module _ (line columns : List ℕ) (first last end element : ℕ)
 pub record ColumnsAt (text : List ℕ) (k from columns : ℕ) : Type 0 where
   pub start : from ≡ part_start text k 10
   pub before : columns ≡ columns_before text k
-
-pub columns_start : (text : List ℕ) → ColumnsAt text 0 0 0
-unfolding part_start columns_before
-columns_start text = record { start = refl; before = refl }
-
-columns_next : (text : List ℕ) (k columns next byte : ℕ) → next ≡ part_start text (suc k) 10 → byte ≡ get_or text (part_start text k 10) 0 → columns ≡ columns_before text k
-    → cond (eqb byte 35) next columns ≡ columns_before text (k + 1)
-unfolding columns_before
-columns_next text k columns next byte s b e = rw (add-one k, s, b, e)
-
-pub columns_on : {text : List ℕ} {k from columns : ℕ} → ColumnsAt text k from columns → (next byte chosen : ℕ) → next ≡ after_mark text from 10
-    → byte ≡ get_or text from 0 → chosen ≡ cond (eqb byte 35) next columns → ColumnsAt text (k + 1) next chosen
-columns_on {text} {k} {from} {columns} v next byte chosen n b c =
-    let s : next ≡ part_start text (k + 1) 10 = start_on text k 10 from next v.start n in
-    record { start = s; before = c ∙ columns_next text k columns next byte (rw (add-one k) at s) (b ∙ ap (λ (x : ℕ). get_or text x 0) v.start) v.before }
-
-pub columns_last : {text : List ℕ} {k from columns : ℕ} → ColumnsAt text k from columns → (number : ℕ) → k ≤ number → number ≤ k → columns ≡ columns_before text number
-columns_last {text} {k} v number h l = let q : k ≡ number = omega arith in v.before ∙ ap (λ (x : ℕ). columns_before text x) q

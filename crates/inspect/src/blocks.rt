@@ -32,6 +32,7 @@ pub fn head_length(text: &[u8], number: usize) -> usize
 }
 
 // Where the block of a number, counted from 0, starts in a text; past the last one the end of the text.
+#[tactic(auto, unfolding(crate::specs::Blocks::block_start))]
 fn start(text: &[u8], number: usize) -> usize
     ensures { result ≡ block_start text.now number }
 {
@@ -43,6 +44,7 @@ fn start(text: &[u8], number: usize) -> usize
 }
 
 // The length of a text's first block: up to the next line that begins with `#`, or to the end of the text.
+#[tactic(auto, unfolding(crate::specs::Blocks::block_length))]
 fn first_length(text: &[u8]) -> usize
     ensures { (result ≡ block_length text.now) × (result ≤ length text.now) }
 {

@@ -9,6 +9,7 @@ use text::lines::{Field, field_at, is_printable};
 use text::part::{at, front, tail};
 
 // Where the first byte outside 0x20 to 0x7E stands in a line; the line's length where there is none.
+#[tactic(auto, unfolding(crate::specs::Line::printable_front))]
 pub fn first_wrong(line: &[u8]) -> usize
     ensures { result ≡ printable_front line.now }
 {
@@ -29,6 +30,7 @@ pub fn field(line: &[u8], position: usize) -> Field
 }
 
 // The number of the element that a column line names at a position.
+#[tactic(auto, unfolding(crate::specs::Line::element_at))]
 pub fn element_at(columns: &[u8], position: usize) -> Option<usize>
     ensures { result ≡ numbered (element_at columns.now position) }
 {
@@ -50,6 +52,7 @@ pub fn column_of(columns: &[u8], element: usize) -> Option<usize>
 
 // The lowest element number from `first` to `last`, counted from 1, whose column stands in the column line and whose field in the data line
 // is not empty.
+#[tactic(auto, unfolding(crate::specs::Line::present_from, crate::specs::Line::first_present))]
 pub fn first_present(line: &[u8], columns: &[u8], first: usize, last: usize) -> Option<usize>
     ensures { result ≡ numbered (first_present line.now columns.now first last) }
 {
@@ -62,6 +65,7 @@ pub fn first_present(line: &[u8], columns: &[u8], first: usize, last: usize) -> 
 }
 
 // Whether the column of an element stands in the column line and its field in the data line is not empty.
+#[tactic(auto, using(crate::proofs::LineLaws::field_size), unfolding(crate::specs::Line::is_present))]
 fn is_present(line: &[u8], columns: &[u8], element: usize) -> bool
     ensures { result ≡ is_present line.now columns.now element }
 {
@@ -73,6 +77,7 @@ fn is_present(line: &[u8], columns: &[u8], element: usize) -> bool
 
 // Where the column line starts that holds for the line of a number, counted from 0: after the last line before it that begins with `#`;
 // 0 where there is none.
+#[tactic(auto, unfolding(crate::specs::Line::columns_before, crate::specs::Part::part_start))]
 pub fn columns_before(text: &[u8], number: usize) -> usize
     ensures { result ≡ columns_before text.now number }
 {

@@ -20,6 +20,7 @@ pub enum Oddity {
 
 // What is odd about a line, given without its LF: a byte order mark before it; its first byte outside 0x20 to 0x7E, where that is a tab or
 // a carriage return; or else what it says.
+#[tactic(auto, unfolding(crate::specs::Oddity::oddity_of))]
 pub fn first_oddity(line: &[u8]) -> Option<Oddity>
     ensures { result ≡ oddity_of line.now }
 {
@@ -46,6 +47,7 @@ fn odd_byte(byte: u8) -> Option<Oddity>
 }
 
 // What is odd about a line whose bytes are 0x20 to 0x7E: that it is blank, a version line but for its end, or another header line.
+#[tactic(auto, unfolding(crate::specs::Oddity::odd_printable, crate::specs::Oddity::is_blank, crate::specs::Oddity::is_header))]
 fn odd_printable(line: &[u8]) -> Option<Oddity>
     ensures { result ≡ odd_printable line.now }
 {
@@ -63,6 +65,7 @@ fn odd_printable(line: &[u8]) -> Option<Oddity>
 }
 
 // What is odd about a line that begins with `# version`.
+#[tactic(auto, unfolding(crate::specs::Oddity::odd_version))]
 fn odd_version(line: &[u8]) -> Option<Oddity>
     ensures { result ≡ odd_version line.now }
 {

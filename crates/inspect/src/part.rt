@@ -6,6 +6,7 @@ use text::lines::up_to;
 use text::part::{front, tail};
 
 // The part of a text from a place up to the next mark.
+#[tactic(auto, unfolding(crate::specs::Part::part_from))]
 pub fn part(text: &[u8], at: usize, mark: u8) -> &[u8]
     ensures { result.now ≡ part_from text.now at mark }
 {
@@ -14,6 +15,7 @@ pub fn part(text: &[u8], at: usize, mark: u8) -> &[u8]
 }
 
 // The place after the next mark, or the end of the text.
+#[tactic(auto, unfolding(crate::specs::Part::after_mark))]
 pub fn after(text: &[u8], at: usize, mark: u8) -> usize
     ensures { result ≡ after_mark text.now at mark }
 {
@@ -23,6 +25,7 @@ pub fn after(text: &[u8], at: usize, mark: u8) -> usize
 }
 
 // The place where the part of a number starts, counted from 0; past the last one the end of the text.
+#[tactic(auto, unfolding(crate::specs::Part::part_start))]
 pub fn start(text: &[u8], number: usize, mark: u8) -> usize
     ensures { result ≡ part_start text.now number mark }
 {
@@ -34,6 +37,7 @@ pub fn start(text: &[u8], number: usize, mark: u8) -> usize
 }
 
 // The part of a number, counted from 0; empty past the last one.
+#[tactic(auto, unfolding(crate::specs::Part::part_of))]
 pub fn numbered(text: &[u8], number: usize, mark: u8) -> &[u8]
     ensures { result.now ≡ part_of text.now number mark }
 {

@@ -6,6 +6,7 @@ use crate::part;
 use text::part::same;
 
 // The entry of a row in a column, both counted from 0; empty where there is none.
+#[tactic(auto, unfolding(crate::specs::Tables::entry_of))]
 pub fn entry(table: &[u8], row: usize, column: usize) -> &[u8]
     ensures { result.now ≡ entry_of table.now row column }
 {
@@ -13,6 +14,7 @@ pub fn entry(table: &[u8], row: usize, column: usize) -> &[u8]
 }
 
 // The row of a name, counted from 0: the first whose first entry it is.
+#[tactic(auto, unfolding(crate::specs::Tables::row_from, crate::specs::Tables::row_of))]
 pub fn row(table: &[u8], name: &[u8]) -> Option<usize>
     ensures { result ≡ found_row table.now name.now }
 {

@@ -4,6 +4,7 @@ use mathlib.Core.Path.{◌≡◌, refl, ap, ◌∙◌}
 use mathlib.Core.Bool.{true, false, ◌||◌}
 use mathlib.Core.List.{List, [], ◌∷◌}
 use native.Mathlib.Omega.{arith}
+use Rattle.std.specs.Prelude.{Ok}
 use lib.Dec.{eqb, ltb}
 use lib.IntN.{ℤ, pos, negsuc}
 use lib.ListN.{length, get_or, drop}
@@ -151,7 +152,7 @@ module _ (u : ℕ) where
       (λ b. rw (a, b) (three_digits (ltb-false w 100 b) (omega arith))))
 
 -- Written right ascensions have their value.
-pub ascension_value : (u : ℕ) → u < 360000000000 → right_ascension (degrees_text u) ≡ Angle (pos u)
+pub ascension_value : (u : ℕ) → u < 360000000000 → right_ascension (degrees_text u) ≡ Ok (Angle (pos u))
 unfolding right_ascension is_right_ascension
 ascension_value u h =
     let r = written u (omega arith) in
@@ -166,7 +167,7 @@ unsigned text h =
     (rw (p, m), m)
 
 -- So have declinations.
-pub signed_value : (z : ℤ) → Declination z → declination (signed_text z) ≡ Angle z
+pub signed_value : (z : ℤ) → Declination z → declination (signed_text z) ≡ Ok (Angle z)
 unfolding declination signed_text with_sign bare
 signed_value (pos u) h =
     let r = written u (omega arith) in

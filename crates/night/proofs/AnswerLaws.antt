@@ -18,12 +18,8 @@ use Rattle.report.specs.Report.{refused, read}
 use Rattle.report.specs.Index.{Index, rows_in, AcceptedIs, noted_value}
 use Rattle.report.proofs.IndexLaws.{noted_value_lem}
 use Rattle.night.specs.Record.{fields_in, record_bytes, record_of}
-use Rattle.night.specs.List.{record_size, Done, done, list_with, written_answer, list_after}
-use Rattle.night.specs.Inner.{noted_fields, place_answer}
-
--- What writing promises, of an answer and the list after it.
-abbrev pub Writes : List ℕ → ℕ → List ℕ → Answer Done → List ℕ → Type 0
-Writes report n list answer after = (answer ≡ written_answer (read report) n list) × (after ≡ list_after (read report) n list)
+use Rattle.night.specs.List.{record_size, Done, done, list_with, written_answer}
+use Rattle.night.specs.Inner.{Writes, noted_fields, place_answer}
 
 -- A refused report.
 pub write_refused : (report : List ℕ) {x : Refusal} (n : ℕ) (list : List ℕ) → read report ≡ refused x → Writes report n list (refused_by (paper x)) list

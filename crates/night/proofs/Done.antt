@@ -8,11 +8,11 @@ use lib.Dec.{leb}
 use lib.ListN.{length, get_or, replicate, length-replicate}
 use borrow.Author.Tests.{le-leb, leb-true}
 use Rattle.text.proofs.Bools.{both}
-use Rattle.refusal.specs.Paper.{Paper, refused_by, given, paper}
+use Rattle.refusal.specs.Paper.{Paper, refused_by, given, paper, request}
 use Rattle.refusal.specs.declared.Kind.TheVariants.{NoObservation, NotOptical, ListTooShort}
 use Rattle.element.specs.Observation.{Observation, is_radar}
 use Rattle.report.specs.Report.{Outcome, accepted, refused, read}
-use Rattle.report.specs.Answers.{is_observation, request}
+use Rattle.report.specs.Answers.{is_observation}
 use Rattle.night.specs.Record.{record_of}
 use Rattle.night.specs.List.{record_size, record_at, done, has_place, written_answer, list_after, Writable}
 use Rattle.night.proofs.Direct.{record_of_length}

@@ -10,11 +10,11 @@ use lib.Seq.{length-take-le, take_at, drop_at, drop-drop, get_or-take, get_or-dr
 use borrow.Author.Tests.{leb-true}
 use Rattle.text.specs.Output.{over}
 use Rattle.text.proofs.Bools.{both}
-use Rattle.refusal.specs.Paper.{Paper, refused_by, given, paper}
+use Rattle.refusal.specs.Paper.{Paper, refused_by, given, paper, request}
 use Rattle.refusal.specs.declared.Kind.TheVariants.{NoObservation, NotOptical, ListTooShort}
 use Rattle.element.specs.Observation.{Observation, is_radar}
 use Rattle.report.specs.Report.{Outcome, accepted, refused, read}
-use Rattle.report.specs.Answers.{is_observation, request}
+use Rattle.report.specs.Answers.{is_observation}
 use Rattle.night.specs.Record.{record_of}
 use Rattle.night.specs.List.{record_size, place_of, record_at, done, has_place, list_with, written_answer, list_after}
 use Rattle.night.proofs.Direct.{record_of_length}

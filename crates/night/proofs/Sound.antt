@@ -22,7 +22,7 @@ use Rattle.text.proofs.Parts.{same_is, take_below}
 use Rattle.refusal.specs.declared.Kind.{Kind}
 use Rattle.refusal.specs.declared.Kind.TheVariants.{ElementMissing, WrongForm, OutOfRange, TooWide}
 use Rattle.refusal.specs.declared.Fault.{Fault}
-use Rattle.refusal.specs.declared.Fault.TheVariants.{Sound, At}
+use Rattle.refusal.specs.Paper.{at}
 use Rattle.value.specs.Angle.{is_degrees, is_right_ascension, units, right_ascension, declination}
 use Rattle.value.specs.Calendar.{is_date, is_clock}
 use Rattle.value.specs.Characters.{is_long, alphanumeric}
@@ -31,9 +31,10 @@ use Rattle.value.specs.Sign.{is_minus, bare, with_sign}
 use Rattle.value.specs.Time.{is_fraction, is_time_end, is_time, is_moment, day_of, fraction, microseconds, obs_time}
 use Rattle.value.specs.declared.Value.{Value}
 use Rattle.value.proofs.Numerals.{number_append}
-use Rattle.element.specs.Form.{value_of, check_of, fault_of}
+use Rattle.element.specs.Form.{value_of, fault_of}
 use Rattle.element.specs.Observation.{Observation, is_present, value_at, is_held, holds_any, first_missing, identification, needed, missing_at, group_fault, optical_fault, is_radar, is_wgs84, is_earth, observation_fault}
-use Rattle.element.specs.declared.form.Check.TheVariants.{Fine, Bad}
+use Rattle.value.specs.Check.{less_value}
+use Rattle.std.specs.Prelude.{Result, Ok, Err}
 use Rattle.element.proofs.Observations.{optical_sound}
 use Rattle.report.specs.Report.{row_limit, accepted, read}
 use Rattle.layout.proofs.Accepted.{RightValue, Right, AllRight, accepted_right, accepted_rows}
@@ -42,21 +43,17 @@ use Rattle.night.proofs.Dates.{date_day}
 use Rattle.night.proofs.RecordLaws.{Station}
 use Rattle.night.proofs.Within.{Ascension, Declination, Within}
 
--- A fault is not fine.
-bad≢fine : {k : Kind} → Bad k ≡ Fine → ⊥
-bad≢fine q = let z : ◌≡◌ {A = ℕ} 0 1 = cc in omega arith
-
 -- What an accepted value is worth.
-present_fine : (c : ℕ) (v : List ℕ) → fault_of c v ≡ Fine → is_present v ≡ true → check_of (value_of c v) ≡ Fine
+present_fine : (c : ℕ) (v : List ℕ) → fault_of c v ≡ Ok tt → is_present v ≡ true → less_value (value_of c v) ≡ Ok tt
 unfolding fault_of
 present_fine c [] f p = never p
 present_fine c (b ∷ v) f p = f
 
 -- A value of a form and within a limit passed both tests.
-passed : (a b : Bool) (value : Value) (p q : Kind) → check_of (cond a (cond b value (Value.Bad p)) (Value.Bad q)) ≡ Fine → (a ≡ true) × (b ≡ true)
+passed : (a b : Bool) (value : Value) (p q : Kind) → less_value (cond a (cond b (Ok value) (Err p)) (Err q)) ≡ Ok tt → (a ≡ true) × (b ≡ true)
 passed true true value p q e = (refl, refl)
-passed true false value p q e = absurd (bad≢fine e)
-passed false b value p q e = absurd (bad≢fine e)
+passed true false value p q e = cc
+passed false b value p q e = cc
 
 station_sound : (v : List ℕ) → RightValue 7 v → is_present v ≡ true → Station v
 unfolding value_of alphanumeric
@@ -106,7 +103,7 @@ fraction_below s h =
 record Moment (v : List ℕ) : Type 0 where
   pub day : ℤ
   pub time : ℕ
-  pub is : value_of 14 v ≡ Value.Time day time
+  pub is : value_of 14 v ≡ Ok (Value.Time day time)
   pub day_in_lem : is_day day ≡ true
   pub time_in : time < 86400000000
 
@@ -135,7 +132,7 @@ moment_sound v r p =
 -- ra and dec are in their ranges.
 record Position (P : ℤ → Type 0) (c : ℕ) (v : List ℕ) : Type 0 where
   pub units : ℤ
-  pub is : value_of c v ≡ Value.Angle units
+  pub is : value_of c v ≡ Ok (Value.Angle units)
   pub within : P units
 
 ascension_sound : (v : List ℕ) → RightValue 16 v → is_present v ≡ true → Position Ascension 16 v
@@ -177,14 +174,14 @@ all_held (n ∷ ns) holds p e =
     (λ h. (h, all_held ns holds q.1 (rw h at e)))
     (λ h. let z : n ≡ 0 = rw h at e in absurd (omega (arith, ltb-true 0 n q.0)))
 
-sound_none : (t : Bool) (n : ℕ) (rest : Fault) → cond t (missing_at ElementMissing n rest) (At ElementMissing 1) ≡ Sound → n ≡ 0
+sound_none : (t : Bool) (n : ℕ) (rest : Result Unit Fault) → cond t (missing_at ElementMissing n rest) (Err (at ElementMissing 1)) ≡ Ok tt → n ≡ 0
 sound_none true n rest e =
     bools (eqb n 0)
     (λ q. eqb-true n 0 q)
-    (λ q. let b : At ElementMissing n ≡ Sound = rw q at e in let z : ◌≡◌ {A = ℕ} 0 1 = cc in absurd (omega arith))
-sound_none false n rest e = let z : ◌≡◌ {A = ℕ} 0 1 = cc in absurd (omega arith)
+    (λ q. let b = rw q at e in cc)
+sound_none false n rest e = cc
 
-needed_held : (o : Observation) → is_radar o ≡ false → observation_fault o ≡ Sound → Held needed (is_held o)
+needed_held : (o : Observation) → is_radar o ≡ false → observation_fault o ≡ Ok tt → Held needed (is_held o)
 unfolding optical_fault
 needed_held o optical e =
     all_held needed (is_held o) refl

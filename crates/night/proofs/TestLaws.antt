@@ -6,10 +6,9 @@ use mathlib.Core.List.{List}
 use native.Mathlib.Omega.{arith}
 use lib.Dec.{eqb, leb}
 use lib.ListN.{get_or, take, drop}
-use borrow.Author.Tests.{ne_eqb, leb-true}
+use borrow.Author.Tests.{ne_eqb}
 use lib.Seq.{take-take}
 use Rattle.std.specs.Prelude.{Some, None}
-use Rattle.text.proofs.Bools.{bools, both}
 use Rattle.text.specs.Numbered.{numbered}
 use Rattle.text.specs.Output.{spelt}
 use Rattle.refusal.specs.Paper.{paper, request, refused_by, given}
@@ -68,14 +67,9 @@ module _ (list : List ℕ) where
 
   -- The reader's, of a list that has so many records, all right.
   module _ (count n : ℕ) (all : given count ≡ list_answer list) where
-    pub record_none : (1 ≤ n → n ≤ count → ⊥) → refused_by (paper (request NoObservation)) ≡ record_answer list n
+    pub record_none : (leb 1 n && leb n count) ≡ false → refused_by (paper (request NoObservation)) ≡ record_answer list n
     unfolding record_answer
-    record_none out =
-        let right = given_none list count (sym all) in
-        let none : (leb 1 n && leb n (record_count list)) ≡ false = bools (leb 1 n && leb n (record_count list))
-        (λ e. let k = both (leb 1 n) (leb n (record_count list)) e in
-        absurd (out (leb-true 1 n k.0) (let last = leb-true n (record_count list) k.1 in omega (arith, right.1)))) (λ e. e) in
-        rw (right.0, none) refl
+    record_none out = let right = given_none list count (sym all) in rw (right.0, right.1, out) refl
 
     module _ (first : 1 ≤ n) (last : n ≤ count) where
       pub in_list : n ≤ record_count list

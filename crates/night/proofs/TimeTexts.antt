@@ -13,6 +13,7 @@ use Rattle.value.specs.Calendar.{is_date, day_number, is_leap}
 use Rattle.value.specs.Numeral.{digits, part}
 use Rattle.value.specs.Time.{is_fraction, is_time_end, is_time, is_moment, day_of, fraction, microseconds, obs_time}
 use Rattle.value.specs.declared.Value.TheVariants.{Time}
+use Rattle.std.specs.Prelude.{Ok}
 use Rattle.value.proofs.Days.{date_parts, month_length_small}
 use Rattle.night.proofs.Spell.{spell, time_text}
 use Rattle.night.proofs.SpellLaws.{spell_is, spell_leading, spell_starts, spell_solid, Solid}
@@ -99,7 +100,7 @@ module _ (y m d us : ℕ) where
       omega arith
 
   -- A written time has its value.
-  pub time_value : is_date y m d ≡ true → us < 86400000000 → obs_time (time_text y m d us) ≡ Time (day_number y m d) us
+  pub time_value : is_date y m d ≡ true → us < 86400000000 → obs_time (time_text y m d us) ≡ Ok (Time (day_number y m d) us)
   unfolding obs_time is_moment day_of microseconds
   time_value h k =
       let p = date_parts y m d h in

@@ -12,7 +12,7 @@ use Rattle.text.specs.Bytes.{bytes}
 use Rattle.text.specs.Class.{leading, is_only}
 use Rattle.text.specs.Digits.{after, number}
 use Rattle.text.specs.Part.{same, starts}
-use Rattle.refusal.specs.declared.Fault.TheVariants.{Sound}
+use Rattle.std.specs.Prelude.{Ok}
 use Rattle.value.specs.Angle.{is_degrees, is_right_ascension, units, right_ascension, declination}
 use Rattle.value.specs.Calendar.{is_leap, year_days, month_length, month_days, is_date, day_number}
 use Rattle.value.specs.Characters.{alphanumeric}
@@ -22,10 +22,10 @@ use Rattle.value.specs.Sign.{bare, with_sign}
 use Rattle.value.specs.Time.{is_time_end, is_time, is_moment, day_of, fraction, microseconds, obs_time}
 use Rattle.value.specs.Word.{mode}
 use Rattle.value.specs.declared.Value.{Value}
-use Rattle.element.specs.Form.{value_of, check_of, fault_of}
+use Rattle.element.specs.Form.{value_of, fault_of}
 use Rattle.element.specs.Observation.{Observation, is_present, holds_any, first_missing, group_missing, group_fault, optical_fault, fault_in, is_radar, is_wgs84, is_earth, observation_fault}
 use Rattle.element.specs.Table.{column_order}
-use Rattle.element.specs.declared.form.Check.TheVariants.{Fine}
+use Rattle.value.specs.Check.{less_value}
 use Rattle.element.proofs.Forms.{fault_absent, fault_present}
 use Rattle.report.specs.Report.{text_limit, row_limit, accepted, read}
 use Rattle.layout.specs.Cost.{size_of}
@@ -72,15 +72,15 @@ right_at {n} none c = absent (n + c)
 right_at {n} (value r rest) zero = let e : n + 0 ≡ n = omega arith in rw e r
 right_at {n} (value r rest) (suc c) = let e : n + suc c ≡ suc n + c = omega arith in rw e (right_at rest c)
 
-letter : (c : ℕ) → value_of c (bytes "a") ≡ Value.NoValue → RightValue c (bytes "a")
+letter : (c : ℕ) → value_of c (bytes "a") ≡ Ok Value.NoValue → RightValue c (bytes "a")
 unfolding is_clean fault_of
 letter c e = record { fine = rw e; trimmed = refl; clean = refl }
 
-letter_track : value_of 3 (bytes "a") ≡ Value.NoValue
+letter_track : value_of 3 (bytes "a") ≡ Ok Value.NoValue
 unfolding value_of alphanumeric is_only leading
 letter_track = refl
 
-letter_catalogue : value_of 21 (bytes "a") ≡ Value.NoValue
+letter_catalogue : value_of 21 (bytes "a") ≡ Ok Value.NoValue
 unfolding value_of alphanumeric is_only leading
 letter_catalogue = refl
 
@@ -89,7 +89,7 @@ unfolding is_clean fault_of value_of mode same
 camera = record { fine = refl; trimmed = refl; clean = refl }
 
 module _ (stn time ra dec : List ℕ) where
-  row_sound : is_present stn ≡ true → is_present time ≡ true → is_present ra ≡ true → is_present dec ≡ true → observation_fault (row_of stn time ra dec) ≡ Sound
+  row_sound : is_present stn ≡ true → is_present time ≡ true → is_present ra ≡ true → is_present dec ≡ true → observation_fault (row_of stn time ra dec) ≡ Ok tt
   unfolding observation_fault fault_in optical_fault holds_any first_missing group_fault group_missing is_wgs84 is_earth same
   row_sound a b c d = rw (a, b, c, d)
 
@@ -229,9 +229,9 @@ long_present [] h = absurd (omega arith)
 long_present (b ∷ v) h = refl
 
 -- A value that was written has no fault.
-solid_right : (c : ℕ) {most : ℕ} {v : List ℕ} (x : Value) → Solid most v → value_of c v ≡ x → check_of x ≡ Fine → RightValue c v
-solid_right c {v = v} x s is fine = record {
-  fine = fault_present c v (λ e. omega (arith, s.some)) ∙ (ap check_of is ∙ fine);
+solid_right : (c : ℕ) {most : ℕ} {v : List ℕ} (x : Value) → Solid most v → value_of c v ≡ Ok x → RightValue c v
+solid_right c {v = v} x s is = record {
+  fine = fault_present c v (λ e. omega (arith, s.some)) ∙ ap less_value is;
   trimmed = solid_trim v s.solid;
   clean = solid_clean v s.solid;
 }
@@ -252,15 +252,15 @@ module _ (f : Fields) (w : Within f) (date : DayOf f.day) where
   made = row_of f.station time ascension declination_text
 
   -- Their values.
-  time_is : value_of 14 time ≡ Value.Time (day_number date.year date.month date.day) f.microseconds
+  time_is : value_of 14 time ≡ Ok (Value.Time (day_number date.year date.month date.day) f.microseconds)
   unfolding value_of
   time_is = time_value date.year date.month date.day f.microseconds date.date w.microseconds
 
-  ascension_is : value_of 16 ascension ≡ Value.Angle (pos w.ra.units)
+  ascension_is : value_of 16 ascension ≡ Ok (Value.Angle (pos w.ra.units))
   unfolding value_of
   ascension_is = ascension_value w.ra.units w.ra.below
 
-  declination_is : value_of 17 declination_text ≡ Value.Angle f.dec
+  declination_is : value_of 17 declination_text ≡ Ok (Value.Angle f.dec)
   unfolding value_of
   declination_is = signed_value f.dec w.dec
 
@@ -294,9 +294,9 @@ module _ (f : Fields) (w : Within f) (date : DayOf f.day) where
   made_right : Right made
   made_right =
       row_right f.station time ascension declination_text (station_right f.station w.station)
-      (solid_right 14 (Value.Time (day_number date.year date.month date.day) f.microseconds) time_whole time_is refl)
-      (solid_right 16 (Value.Angle (pos w.ra.units)) ascension_whole ascension_is refl)
-      (solid_right 17 (Value.Angle f.dec) declination_whole declination_is refl)
+      (solid_right 14 (Value.Time (day_number date.year date.month date.day) f.microseconds) time_whole time_is)
+      (solid_right 16 (Value.Angle (pos w.ra.units)) ascension_whole ascension_is)
+      (solid_right 17 (Value.Angle f.dec) declination_whole declination_is)
       station_present time_present ascension_present declination_present
 
   made_optical : is_radar made ≡ false

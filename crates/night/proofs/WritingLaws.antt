@@ -8,6 +8,8 @@ use lib.Seq.{take_all}
 use Rattle.text.specs.Lines.{blank}
 use Rattle.text.specs.Output.{over, put_over, low_bytes}
 use Rattle.text.proofs.Outputs.{over_length, over_step, put_room, low_count}
+use Rattle.std.specs.Prelude.{Result}
+use Rattle.refusal.specs.declared.Kind.{Kind}
 use Rattle.value.specs.declared.Value.{Value}
 use Rattle.night.specs.Record.{fields_from, day_in, microseconds_in, units_in, padded, signed_bytes, record_bytes}
 use Rattle.night.specs.List.{place_of, list_with}
@@ -63,7 +65,7 @@ pub number_long : (number : ℕ) (station : List ℕ) → length (low_bytes 4 nu
 unfolding low_bytes
 number_long number station = refl
 
-pub time_long : (number : ℕ) (station : List ℕ) (time : Value)
+pub time_long : (number : ℕ) (station : List ℕ) (time : Result Value Kind)
     → length ((low_bytes 4 number ++ padded station) ++ (signed_bytes 4 (day_in time) ++ low_bytes 8 (microseconds_in time))) ≡ 20
 unfolding low_bytes
 time_long number station time = refl
@@ -73,7 +75,7 @@ unfolding low_bytes
 two_eights a b = refl
 
 -- The three parts of a record, one after another.
-pub record_parts : (number : ℕ) (station : List ℕ) (time ra dec : Value)
+pub record_parts : (number : ℕ) (station : List ℕ) (time ra dec : Result Value Kind)
     → ((low_bytes 4 (number - 1) ++ padded station) ++ (signed_bytes 4 (day_in time) ++ low_bytes 8 (microseconds_in time)))
     ++ ((signed_bytes 8 (units_in ra) ++ signed_bytes 8 (units_in dec)) ++ low_bytes 4 0)
     ≡ record_bytes (fields_from number station time ra dec)

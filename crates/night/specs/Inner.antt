@@ -1,15 +1,19 @@
 -- What the private functions of the night list promise each other. A reviewer of the promises can skip this file.
-use Rattle.std.specs.Prelude.{ℕ, ◌+◌, ◌*◌, Bool, cond, ◌&&◌, List, eqb, leb, ltb, length}
+use Rattle.std.specs.Prelude.{ℕ, ◌+◌, ◌*◌, ◌≡◌, Bool, cond, ◌&&◌, List, eqb, leb, ltb, length}
 use Rattle.std.specs.Int.{w32, w64}
 use Rattle.std.proofs.Common.{to_z}
 use Rattle.refusal.specs.Paper.{paper, request, Answer, refused_by, given}
 use Rattle.refusal.specs.declared.Kind.TheVariants.{NoObservation, NotOptical, ListTooShort}
 use Rattle.element.specs.Form.{value_of}
-use Rattle.report.specs.Report.{row_limit}
+use Rattle.report.specs.Report.{read, row_limit}
 use Rattle.report.specs.Index.{Index, noted_value}
 use Rattle.night.specs.Record.{Fields, fields_from, spelt_at, is_station, is_day, is_ascension, is_declination}
-use Rattle.night.specs.List.{record_size, Done, done}
+use Rattle.night.specs.List.{record_size, Done, done, written_answer, list_after}
 use Rattle.night.specs.declared.answer.Record.{Record}
+
+-- What writing promises, of an answer and the list after it.
+abbrev pub Writes : List ℕ → ℕ → List ℕ → Answer Done → List ℕ → Type 0
+Writes report n list answer after = (answer ≡ written_answer (read report) n list) × (after ≡ list_after (read report) n list)
 
 -- The fields of the observation that a row of an index notes.
 abbrev pub noted_fields : List ℕ → Index → ℕ → ℕ → Fields

@@ -1,5 +1,5 @@
 -- The night list's records: 40 bytes for an observation.
-use Rattle.std.specs.Prelude.{ℕ, ◌+◌, ◌-◌, Bool, cond, ◌&&◌, List, [], ◌∷◌, ◌++◌, eqb, leb, ltb, ℤ, pos, neg_ℤ, get_or, take, drop}
+use Rattle.std.specs.Prelude.{ℕ, ◌+◌, ◌-◌, Bool, cond, ◌&&◌, List, [], ◌∷◌, ◌++◌, eqb, leb, ltb, ℤ, pos, neg_ℤ, get_or, take, drop, Result, Ok, Err}
 use Rattle.std.specs.Int.Signed.{le_z, lt_z}
 use Rattle.std.specs.Int.{w32, w64}
 use Rattle.std.proofs.Common.{of_z, to_z}
@@ -8,10 +8,11 @@ use Rattle.text.specs.Lines.{blank, trim}
 use Rattle.text.specs.Output.{low_bytes, spelt}
 use Rattle.text.specs.Part.{same}
 use Rattle.text.specs.declared.class.Class.TheVariants.{Alphanumeric}
+use Rattle.refusal.specs.declared.Kind.{Kind}
 use Rattle.value.specs.Calendar.{day_number}
 use Rattle.value.specs.Characters.{is_long}
 use Rattle.value.specs.declared.Value.{Value}
-use Rattle.value.specs.declared.Value.TheVariants.{Bad, NoValue, Whole, Decimal, Time, Angle, Scaled}
+use Rattle.value.specs.declared.Value.TheVariants.{NoValue, Whole, Decimal, Time, Angle, Scaled}
 use Rattle.element.specs.Form.{value_of}
 use Rattle.element.specs.Observation.{Observation, value_at}
 use Rattle.report.specs.Report.{row_limit}
@@ -25,38 +26,38 @@ pub record Fields : Type 0 where
   pub ra : ℤ
   pub dec : ℤ
 
--- The day of a time, 0 of another value.
-abbrev pub day_in : Value → ℤ
-day_in (Bad kind) = pos 0
-day_in NoValue = pos 0
-day_in (Whole whole) = pos 0
-day_in (Decimal whole places) = pos 0
-day_in (Time day microseconds) = day
-day_in (Angle units) = pos 0
-day_in (Scaled negative high low power) = pos 0
+-- The day of a time, 0 of another value and of a fault.
+abbrev pub day_in : Result Value Kind → ℤ
+day_in (Err kind) = pos 0
+day_in (Ok NoValue) = pos 0
+day_in (Ok (Whole whole)) = pos 0
+day_in (Ok (Decimal whole places)) = pos 0
+day_in (Ok (Time day microseconds)) = day
+day_in (Ok (Angle units)) = pos 0
+day_in (Ok (Scaled negative high low power)) = pos 0
 
--- The microseconds of a time, 0 of another value.
-abbrev pub microseconds_in : Value → ℕ
-microseconds_in (Bad kind) = 0
-microseconds_in NoValue = 0
-microseconds_in (Whole whole) = 0
-microseconds_in (Decimal whole places) = 0
-microseconds_in (Time day microseconds) = microseconds
-microseconds_in (Angle units) = 0
-microseconds_in (Scaled negative high low power) = 0
+-- The microseconds of a time, 0 of another value and of a fault.
+abbrev pub microseconds_in : Result Value Kind → ℕ
+microseconds_in (Err kind) = 0
+microseconds_in (Ok NoValue) = 0
+microseconds_in (Ok (Whole whole)) = 0
+microseconds_in (Ok (Decimal whole places)) = 0
+microseconds_in (Ok (Time day microseconds)) = microseconds
+microseconds_in (Ok (Angle units)) = 0
+microseconds_in (Ok (Scaled negative high low power)) = 0
 
--- The units of an angle, 0 of another value.
-abbrev pub units_in : Value → ℤ
-units_in (Bad kind) = pos 0
-units_in NoValue = pos 0
-units_in (Whole whole) = pos 0
-units_in (Decimal whole places) = pos 0
-units_in (Time day microseconds) = pos 0
-units_in (Angle units) = units
-units_in (Scaled negative high low power) = pos 0
+-- The units of an angle, 0 of another value and of a fault.
+abbrev pub units_in : Result Value Kind → ℤ
+units_in (Err kind) = pos 0
+units_in (Ok NoValue) = pos 0
+units_in (Ok (Whole whole)) = pos 0
+units_in (Ok (Decimal whole places)) = pos 0
+units_in (Ok (Time day microseconds)) = pos 0
+units_in (Ok (Angle units)) = units
+units_in (Ok (Scaled negative high low power)) = pos 0
 
 -- The fields of a number, counted from 1, a station and the values of obsTime, ra and dec.
-abbrev pub fields_from : ℕ → List ℕ → Value → Value → Value → Fields
+abbrev pub fields_from : ℕ → List ℕ → Result Value Kind → Result Value Kind → Result Value Kind → Fields
 fields_from number station time ra dec = record {
   number = number;
   station = station;

@@ -19,6 +19,7 @@ use element::ELEMENTS;
 use list::{first_bad, record_at};
 use record::record_of;
 use refusal::{Kind, Refusal};
+use std::ops::RangeBounds;
 
 // Writes the record of an observation of a report at its place in the list, or says why nothing is written. It makes the lists for an index
 // of that one observation, with a row more for the reader's own use.
@@ -57,7 +58,7 @@ pub fn read(list: &[u8], number: usize) -> Result<Record, Refusal>
     ensures { recorded_paper result ≡ record_answer list.now number }
 {
     let count = check(list)?;
-    if number < 1 || count < number {
+    if !(1..=count).contains(&number) {
         return Err(Refusal::of_request(Kind::NoObservation));
     }
     Ok(record_of(record_at(list, number)))

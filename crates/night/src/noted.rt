@@ -1,19 +1,18 @@
 // Writing the record of an observation that an index notes.
 ghost use Rattle.std.specs.Prelude.{◌≡◌, ◌-◌, ◌*◌, ◌≤◌, ◌<◌, length};
 ghost use Rattle.element.specs.Form.{value_of};
-ghost use Rattle.report.specs.Report.{read as read_of};
 ghost use Rattle.report.specs.Index.{lent, rows_in, room_in, AcceptedIs, noted_value};
 ghost use Rattle.night.specs.Record.{record_bytes};
-ghost use Rattle.night.specs.List.{record_size, list_with, written_paper, written_answer, list_after};
-ghost use Rattle.night.specs.Inner.{noted_fields, place_answer};
+ghost use Rattle.night.specs.List.{record_size, list_with, written_paper};
+ghost use Rattle.night.specs.Inner.{Writes, noted_fields, place_answer};
 
 use crate::RECORD_SIZE;
 use crate::writing::put_record;
 use element::form;
 use element::observation::is_radar;
 use refusal::{Kind, Refusal};
-use report::answer::Checked;
 use report::index::{index, value_of};
+use std::ops::RangeBounds;
 use value::Value;
 
 // Indices of the elements stn, obsTime, ra and dec.
@@ -35,15 +34,11 @@ pub(crate) fn write_with(
     list: &mut [u8],
 ) -> Result<(), Refusal>
     requires { room_in sets.old starts.old lengths.old ≡ 1 }
-    ensures { (written_paper result ≡ written_answer (read_of report.now) observation list.old) × (list.new ≡ list_after (read_of report.now) observation list.old) }
+    ensures { Writes report.now observation list.old (written_paper result) list.new }
 {
     let row = observation.saturating_sub(1);
-    match index(report, row, sets, starts, lengths) {
-        Checked::Refused(refusal) => Err(refusal),
-        Checked::Accepted(count) => {
-            write_noted(report, sets, starts, lengths, count, observation, list)
-        }
-    }
+    let count = index(report, row, sets, starts, lengths)?;
+    write_noted(report, sets, starts, lengths, count, observation, list)
 }
 
 // Writes the record of an observation, of so many, that the first row of an index notes.
@@ -57,7 +52,7 @@ fn write_noted(
     list: &mut [u8],
 ) -> Result<(), Refusal>
     requires { AcceptedIs report.now (observation - 1) 1 (lent sets.now starts.now lengths.now) count × (0 < rows_in sets.now starts.now lengths.now) }
-    ensures { (written_paper result ≡ written_answer (read_of report.now) observation list.old) × (list.new ≡ list_after (read_of report.now) observation list.old) }
+    ensures { Writes report.now observation list.old (written_paper result) list.new }
 {
     answer_at(count, is_radar(sets[0]), observation, list.len())?;
     write_at(report, sets, starts, lengths, 0, observation, list);
@@ -69,7 +64,7 @@ fn write_noted(
 fn answer_at(count: usize, radar: bool, number: usize, room: usize) -> Result<(), Refusal>
     ensures { written_paper result ≡ place_answer count radar number room }
 {
-    if number < 1 || count < number {
+    if !(1..=count).contains(&number) {
         return Err(Refusal::of_request(Kind::NoObservation));
     }
     if radar {
@@ -110,7 +105,7 @@ fn noted_value(
     lengths: &[u16],
     row: usize,
     element: usize,
-) -> Value
+) -> Result<Value, Kind>
     ensures { result ≡ value_of element (noted_value report.now (lent sets.now starts.now lengths.now) row element) }
 {
     form::value(

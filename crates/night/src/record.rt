@@ -83,8 +83,7 @@ fn station_of(bytes: &[u8]) -> &[u8]
 fn is_within(fields: Record, station: &[u8]) -> bool
     ensures { result ≡ is_within_numbers fields station.now }
 {
-    1 <= fields.number
-        && fields.number <= ROW_LIMIT as u64
+    (1..=ROW_LIMIT as u64).contains(&fields.number)
         && is_station(station)
         && is_day(fields.day)
         && fields.microseconds < DAY
@@ -97,10 +96,7 @@ fn is_within(fields: Record, station: &[u8]) -> bool
 fn is_station(text: &[u8]) -> bool
     ensures { result ≡ is_station text.now }
 {
-    class::is_only(Class::Alphanumeric, text)
-        && 3 <= text.len()
-        && text.len() <= 4
-        && is_trimmed(text)
+    class::is_only(Class::Alphanumeric, text) && (3..=4).contains(&text.len()) && is_trimmed(text)
 }
 
 // Whether a text has no blank at either end.

@@ -5,6 +5,7 @@ ghost use Rattle.text.specs.Output.{over, low_bytes};
 ghost use Rattle.night.specs.Record.{fields_from, day_in, microseconds_in, units_in, padded, signed_bytes, record_bytes};
 ghost use Rattle.night.specs.List.{record_size};
 
+use refusal::Kind;
 use text::output::put_low;
 use value::Value;
 
@@ -12,9 +13,9 @@ use value::Value;
 pub(crate) fn put_record(
     number: usize,
     station: &[u8],
-    time: Value,
-    ra: Value,
-    dec: Value,
+    time: Result<Value, Kind>,
+    ra: Result<Value, Kind>,
+    dec: Result<Value, Kind>,
     output: &mut [u8],
 )
     requires { (1 ≤ number) × (record_size ≤ length output.old) }
@@ -45,7 +46,7 @@ fn put_station(station: &[u8], output: &mut [u8])
 }
 
 // Writes the day and the microseconds of a time.
-fn put_time(time: Value, output: &mut [u8])
+fn put_time(time: Result<Value, Kind>, output: &mut [u8])
     requires { 12 ≤ length output.old }
     ensures { output.new ≡ over (signed_bytes 4 (day_in time) ++ low_bytes 8 (microseconds_in time)) output.old }
 {
@@ -54,7 +55,7 @@ fn put_time(time: Value, output: &mut [u8])
 }
 
 // Writes a right ascension, a declination and the zeros at the record's end.
-fn put_position(ra: Value, dec: Value, output: &mut [u8])
+fn put_position(ra: Result<Value, Kind>, dec: Result<Value, Kind>, output: &mut [u8])
     requires { 20 ≤ length output.old }
     ensures { output.new ≡ over ((signed_bytes 8 (units_in ra) ++ signed_bytes 8 (units_in dec)) ++ low_bytes 4 0) output.old }
 {
@@ -63,32 +64,32 @@ fn put_position(ra: Value, dec: Value, output: &mut [u8])
     put_low(0, 4, &mut output[16..]);
 }
 
-// The day of a time, 0 of another value.
-fn day_in(value: Value) -> i64
+// The day of a time, 0 of another value and of a fault.
+fn day_in(value: Result<Value, Kind>) -> i64
     ensures { result ≡ day_in value }
 {
     match value {
-        Value::Time(day, _) => day,
+        Ok(Value::Time(day, _)) => day,
         _ => 0,
     }
 }
 
-// The microseconds of a time, 0 of another value.
-fn microseconds_in(value: Value) -> u64
+// The microseconds of a time, 0 of another value and of a fault.
+fn microseconds_in(value: Result<Value, Kind>) -> u64
     ensures { result ≡ microseconds_in value }
 {
     match value {
-        Value::Time(_, microseconds) => microseconds,
+        Ok(Value::Time(_, microseconds)) => microseconds,
         _ => 0,
     }
 }
 
-// The units of an angle, 0 of another value.
-fn units_in(value: Value) -> i64
+// The units of an angle, 0 of another value and of a fault.
+fn units_in(value: Result<Value, Kind>) -> i64
     ensures { result ≡ units_in value }
 {
     match value {
-        Value::Angle(units) => units,
+        Ok(Value::Angle(units)) => units,
         _ => 0,
     }
 }

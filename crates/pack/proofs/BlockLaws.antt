@@ -41,44 +41,46 @@ row_at report first count i h = get_or-take count (drop first (observed report))
 rows_length : (report : List ℕ) (first count : ℕ) → first + count ≤ length (observed report) → length (rows_from report first count) ≡ count
 rows_length report first count h = simp (length-take, length-drop) (omega arith)
 
+-- The rows from one on up to an end, one by one.
+rows_step : (report : List ℕ) (row end : ℕ) → row < end → end ≤ length (observed report)
+    → rows_from report row (end - row) ≡ get_or (observed report) row [] ∷ rows_from report (row + 1) (end - (row + 1))
+rows_step report row end h k =
+    let n : end - row ≡ suc (end - (row + 1)) = omega arith in
+    rw (n, drop-cons (observed report) row [] (omega arith), add-one row) refl
+
 module _ {report : List ℕ} {index : List Row} {columns before : List ℕ} {first count : ℕ} (asks : RowsAsk report index columns before first count) where
-  -- A row more.
-  pub rows_turn : {after : List ℕ} {at i : ℕ} → i < count
-      → Writing (data_lines columns (rows_from report first count)) before after at (data_lines columns (drop i (rows_from report first count)))
-      → Writing (data_lines columns (rows_from report first count)) before after at
-      (row_line report columns (first + i) ++ data_lines columns (drop (i + 1) (rows_from report first count)))
-  unfolding data_lines
-  rows_turn {i = i} h w =
-      let e : drop i (rows_from report first count) ≡ get_or (observed report) (first + i) [] ∷ drop (i + 1) (rows_from report first count) =
-      drop-cons (rows_from report first count) i [] (omega (arith, rows_length report first count asks.inside))
-      ∙ (rw (row_at report first count i h, add-one i)) in
-      rw e at w
+  abbrev all : List ℕ
+  all = data_lines columns (rows_from report first count)
 
-  -- It can be written.
-  pub row_asks : {after : List ℕ} {at i : ℕ} → i < count
-      → Writing (data_lines columns (rows_from report first count)) before after at (data_lines columns (drop i (rows_from report first count)))
-      → RowAsks report index columns (take (length after - at) (drop at after)) (first + i)
-  row_asks {i = i} h w = record {
-    indexed = asks.indexed;
-    inside = omega (arith, asks.inside);
-    columns_are = asks.columns_are;
-    room = write_fits (row_line report columns (first + i)) _ (rows_turn h w);
-  }
+  -- The data lines of the rows from one on.
+  abbrev pub lines_left : ℕ → List ℕ
+  lines_left row = data_lines columns (rows_from report row (first + count - row))
 
-  pub row_room : {after : List ℕ} {at i : ℕ} → i < count
-      → Writing (data_lines columns (rows_from report first count)) before after at (data_lines columns (drop i (rows_from report first count)))
-      → at + length (row_line report columns (first + i)) ≤ length after
-  row_room {i = i} h w = write_room (row_line report columns (first + i)) _ (rows_turn h w)
+  pub rows_begin : Writing all before before 0 (lines_left first)
+  rows_begin = let e : first + count - first ≡ count = omega arith in rw e (write_begin all before asks.room)
+
+  module _ {after : List ℕ} {at row : ℕ} (h : row < first + count) (w : Writing all before after at (lines_left row)) where
+    -- A row more.
+    pub rows_turn : Writing all before after at (row_line report columns row ++ lines_left (row + 1))
+    unfolding data_lines
+    rows_turn = rw (rows_step report row (first + count) h asks.inside) at w
+
+    -- It can be written.
+    pub row_asks : RowAsks report index columns (take (length after - at) (drop at after)) row
+    row_asks = record {
+      indexed = asks.indexed;
+      inside = omega (arith, asks.inside);
+      columns_are = asks.columns_are;
+      room = write_fits (row_line report columns row) _ rows_turn;
+    }
+
+    pub row_room : at + length (row_line report columns row) ≤ length after
+    row_room = write_room (row_line report columns row) _ rows_turn
 
   -- All rows are written.
-  pub rows_end : {after : List ℕ} {at i : ℕ} → count ≤ i
-      → Writing (data_lines columns (rows_from report first count)) before after at (data_lines columns (drop i (rows_from report first count)))
-      → Wrote (data_lines columns (rows_from report first count)) before after at
+  pub rows_end : {after : List ℕ} {at row : ℕ} → first + count ≤ row → Writing all before after at (lines_left row) → Wrote all before after at
   unfolding data_lines
-  rows_end {i = i} h w =
-      let none : drop i (rows_from report first count) ≡ [] =
-      drop_of_length-le (rows_from report first count) {i = i} (omega (arith, rows_length report first count asks.inside)) in
-      write_end (rw none at w)
+  rows_end {row = row} h w = let none : first + count - row ≡ 0 = omega arith in write_end (rw none at w)
 
 -- A block.
 
@@ -122,9 +124,9 @@ module _ {report : List ℕ} {index : List Row} {before : List ℕ} {first count
   module _ {set : ℕ} {columns : List ℕ} (j : set ≡ joined 0 (map (λ (row : Row). row.present) (take (first + count - first) (drop first index)))) (l : columns ≡ columns_in set) where
     columns_are : columns ≡ columns_of (rows_from report first count)
     columns_are =
-        let all : first + count - first ≡ count = omega arith in
+        let whole : first + count - first ≡ count = omega arith in
         l
-        ∙ (ap columns_in (j ∙ ap (joined 0) (rw all (rows_sets first count asks.indexed asks.inside)))
+        ∙ (ap columns_in (j ∙ ap (joined 0) (rw whole (rows_sets first count asks.indexed asks.inside)))
         ∙ columns_joined (rows_from report first count))
 
     known : Columns columns

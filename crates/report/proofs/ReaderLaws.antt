@@ -9,7 +9,7 @@ use lib.Seq.{drop-drop, get_or-append-add, get_or-set_same, get_or-set_other}
 use borrow.Author.Tests.{le-ltb, lt-ltb, le-leb, leb-true, ltb-true, ltb-false, eqb-true, eqb-false}
 use native.Mathlib.Omega.{arith}
 use native.Mathlib.Numerals.{add-one}
-use Rattle.std.specs.Prelude.{Result, Ok, Err}
+use Rattle.std.specs.Prelude.{Option, Some, None, Result, Ok, Err}
 use Rattle.text.specs.Lines.{cut, line, lines, up_to, first_line, printable, fields, ScannedIs}
 use Rattle.text.proofs.Bools.{bools}
 use Rattle.text.proofs.LineLaws.{up_to_le, first_line_lem, lines_line, lines_cut, rest_of}
@@ -23,7 +23,8 @@ use Rattle.report.specs.Report.{bad, Outcome, accepted, refused, more, at_end, a
 use Rattle.report.specs.Starts.{starts_after, starts_from, starts_in, starts_of}
 use Rattle.report.specs.Index.{row_at, Noted, AcceptedIs, IndexCase, IndexIs}
 use Rattle.report.specs.declared.index.Row.{Row}
-use Rattle.report.specs.Inner.{between, state_of, Known, NextIs, RowTaken, LineAsks, TookLine, step_at, slot_of, checked_at}
+use Rattle.report.specs.Inner.{between, state_of, Known, NextIs, RowTaken, LineAsks, TookLine, NextLine, NextIn, step_at, slot_of, checked_at}
+use Rattle.report.specs.declared.line.Line.{Line}
 use Rattle.report.specs.declared.state.Need.{Need}
 use Rattle.report.specs.declared.state.State.{State as CodeState}
 use Rattle.report.specs.declared.state.Taken.{Taken}
@@ -92,6 +93,49 @@ row_same rows slot i {y} h e =
     (λ q. let z : i ≡ slot = eqb-true i slot q in rw z (row_own rows slot y h ∙ e))
     (λ q. row_other rows slot i y (eqb-false i slot q))
 
+-- ---- the next line
+
+-- The end of the text; bytes with no LF after them; a line.
+pub next_none : {t : List ℕ} {at number : ℕ} → length t ≤ at → NextIn t at number at number (Ok None)
+next_none h = record { case = (h, refl, refl) }
+
+module _ (t : List ℕ) {at size : ℕ} {right : Bool} {parts : ℕ} (h : at < length t) (c : ScannedIs (take (length t - at) (drop at t)) size right parts) where
+  next_size : size ≡ up_to 10 (drop at t)
+  next_size = c.size_is ∙ ap (λ (l : List ℕ). up_to 10 l) (rest_of t at (omega arith))
+
+  pub next_fits : at + size ≤ length t
+  next_fits = omega (arith, next_size, up_to_le 10 (drop at t), length-drop at t)
+
+  pub next_cut : {number : ℕ} → at + size ≡ length t → NextIn t at number at number (Err (record { kind = NoLineEnd; line = number; place = 0 }))
+  next_cut q = record { case = (h, omega (arith, next_size, length-drop at t), refl) }
+
+  pub next_some : {number : ℕ} → (at + size ≡ length t → ⊥)
+      → NextIn t at number (at + size + 1) (number + 1) (Ok (Some (record { number = number; from = at; till = at + size; printable = right; fields = parts })))
+  next_some q =
+      let d : at + size - at ≡ size = omega arith in
+      record {
+        case = record {
+          from_is = refl;
+          order = omega arith;
+          ended = omega (arith, q, next_fits);
+          scanned = rw d c;
+          number_is = refl;
+          at_is = refl;
+          number_on = refl;
+        };
+      }
+
+-- What the next line is, once the answer is known.
+module _ {t : List ℕ} {at number at' number' : ℕ} {r : Result (Option Line) Refusal} (n : NextIn t at number at' number' r) where
+  pub line_of : {ln : Line} {found : Option Line} → r ≡ Ok found → found ≡ Some ln → NextLine t at number ln at' number'
+  line_of {ln} e s = let z : r ≡ Ok (Some ln) = e ∙ ap Ok s in rw z at n.case
+
+  pub end_of : {found : Option Line} → r ≡ Ok found → found ≡ None → (length t ≤ at) × (at' ≡ at) × (number' ≡ number)
+  end_of e s = let z : r ≡ Ok None = e ∙ ap Ok s in rw z at n.case
+
+  pub cut_of : {z : Refusal} → r ≡ Err z → (at < length t) × (up_to 10 (drop at t) ≡ length (drop at t)) × (z ≡ record { kind = NoLineEnd; line = number; place = 0 })
+  cut_of e = rw e at n.case
+
 -- ---- the loop
 
 -- The observations so far and where their values start; those that have a row of their own are noted there.
@@ -158,136 +202,132 @@ module _ {t columns : List ℕ} {first room : ℕ} {rows : List Row} {at number 
       go Need.Row q = read_end h ∙ (ap (λ (n : Need). prefix v.observations (at_end n number)) q ∙ prefix_refused v.observations _)
       go Need.Nothing q = read_done h (ap (λ (n : Need). at_end n number) q)
 
-  module _ (h : at < length t) {size : ℕ} {right : Bool} {parts : ℕ} (c : ScannedIs (take (length t - at) (drop at t)) size right parts) where
-    size_is : size ≡ up_to 10 (drop at t)
-    size_is = c.size_is ∙ ap (λ (l : List ℕ). up_to 10 l) (rest_of t at v.at_most)
+  -- bytes with no LF after them
+  pub read_cut : at < length t → up_to 10 (drop at t) ≡ length (drop at t) → {z : Refusal} → z ≡ record { kind = NoLineEnd; line = number; place = 0 }
+      → IndexIs t first room rows (Err z)
+  unfolding read_from
+  read_cut h q e =
+      let g = lines_cut_off (drop at t) (omega (arith, length-drop at t, h)) q in
+      record { case = rw e (read_short t v.short ∙ (v.rest ∙ rw g (prefix_refused v.observations _))) }
 
-    -- bytes with no LF after them
-    pub read_cut : at + size ≡ length t → {r : Result ℕ Refusal} → r ≡ Err (record { kind = NoLineEnd; line = number; place = 0 }) → IndexIs t first room rows r
+  -- a line
+  module _ {ln : Line} {at' number' : ℕ} (l : NextLine t at number ln at' number') where
+    till_is : ln.till ≡ at + up_to 10 (drop at t)
+    till_is = omega (arith, l.order, l.scanned.size_is ∙ ap (λ (l : List ℕ). up_to 10 l) (rest_of t at v.at_most))
+
+    line_is : between t at ln.till ≡ first_line (drop at t)
+    line_is = let d : ln.till - at ≡ up_to 10 (drop at t) = omega (arith, till_is) in rw d (first_line_lem (drop at t))
+
+    pub line_asks : LineAsks t columns ln.from ln.till ln.fields s × (ln.printable ≡ printable (between t ln.from ln.till))
+    line_asks =
+        let r = rest_of t at v.at_most in
+        rw l.from_is (
+          record {
+            lies = record {
+              order = l.order;
+              in_text = l.ended;
+              short = omega (arith, l.ended, v.short);
+              parts_are = l.scanned.parts_is ∙ ap (λ (l : List ℕ). length (fields l)) (ap (λ (l : List ℕ). first_line l) r ∙ sym line_is);
+            };
+            wide = omega (arith, v.wide);
+            known = v.known;
+          },
+          l.scanned.right_is ∙ ap (λ (l : List ℕ). printable l) (ap (λ (l : List ℕ). first_line l) r ∙ sym line_is),
+        )
+
+    split : lines (drop at t) ≡ line (between t at ln.till) (lines (drop (ln.till + 1) t))
+    split =
+        let g : up_to 10 (drop at t) < length (drop at t) = omega (arith, l.ended, till_is, length-drop at t) in
+        let d : at + suc (up_to 10 (drop at t)) ≡ ln.till + 1 = omega (arith, till_is) in
+        lines_line (drop at t) g ∙ rw (drop-drop, d, line_is)
+
+    line_long : at + suc (length (between t at ln.till)) ≡ ln.till + 1
+    line_long = omega (arith, length-take (ln.till - at) (drop at t), length-drop at t, l.order, l.ended)
+
+    on : read_from begin 1 0 (lines t)
+        ≡ prefix v.observations (after (step_at t at ln.till s columns k) number (state_of s columns) k
+        (λ s' k'. read_from s' (suc number) k' (lines (drop (ln.till + 1) t))))
     unfolding read_from
-    read_cut q e =
-        let g = lines_cut_off (drop at t) (omega (arith, length-drop at t)) (omega (arith, size_is, length-drop at t)) in
-        record { case = rw e (read_short t v.short ∙ (v.rest ∙ rw g (prefix_refused v.observations _))) }
+    on = v.rest ∙ rw split
 
-    pub line_fits : at + size ≤ length t
-    line_fits = omega (arith, size_is, up_to_le 10 (drop at t), length-drop at t)
+    on_starts : starts_from begin 0 0 (lines t)
+        ≡ v.spots ++ starts_after (step_at t at ln.till s columns k) (state_of s columns) k at (between t at ln.till)
+        (λ s' k'. starts_from s' (ln.till + 1) k' (lines (drop (ln.till + 1) t)))
+    unfolding starts_from
+    on_starts = v.left ∙ rw (split, line_long)
 
-    -- a line
-    module _ (q : at + size ≡ length t → ⊥) where
-      inside : at + size < length t
-      inside = omega (arith, q, line_fits)
+    module _ {columns' : List ℕ} {x y : Row} {r : Result Taken Fault} (took : TookLine t columns columns' x y ln.from ln.till k s (step_at t ln.from ln.till s columns k) r) where
+      took_at : TookLine t columns columns' x y at ln.till k s (step_at t at ln.till s columns k) r
+      took_at = rw l.from_is at took
 
-      line_is : between t at (at + size) ≡ first_line (drop at t)
-      line_is =
-          let d : at + size - at ≡ size = omega arith in
-          rw (d, size_is) (first_line_lem (drop at t))
+      pub read_bad : {rows' : List Row} {f : Fault} → r ≡ Err f → {z : Refusal} → z ≡ on_line ln.number f → IndexIs t first room rows' (Err z)
+      read_bad {rows'} {f} e g =
+          let b : step_at t at ln.till s columns k ≡ bad f.kind f.place = rw e at took_at.case in
+          record { case = rw (g, l.number_is) (read_short t v.short ∙ (on ∙ rw b (prefix_refused v.observations _))) }
 
-      pub line_asks : LineAsks t columns at (at + size) parts s × (right ≡ printable (between t at (at + size)))
-      line_asks =
-          let r = rest_of t at v.at_most in (
+      module _ (wide : length columns' ≡ length columns) {slot : ℕ} (slot_is : (slot ≡ slot_of first room k) × (slot ≤ room)) (lent : x ≡ row_at rows slot) where
+        inside : slot < length rows
+        inside = omega (arith, v.room_is, slot_is.1)
+
+        room_is' : room < length (set rows slot y)
+        room_is' = simp length-set v.room_is
+
+        pub read_next : {s' : CodeState} → {a : Taken} → r ≡ Ok a → a ≡ Taken.Next s' → Reading t columns' first room (set rows slot y) at' number' k s'
+        read_next {s'} o e =
+            let z : r ≡ Ok (Taken.Next s') = o ∙ ap Ok e in
+            let n : NextIs columns' x y (step_at t at ln.till s columns k) s' = rw z at took_at.case in
+            rw (l.at_is, l.number_on) (record {
+              at_most = omega (arith, l.ended);
+              short = v.short;
+              lines_few = omega (arith, v.lines_few, l.order);
+              rows_few = v.rows_few;
+              wide = wide ∙ v.wide;
+              known = n.known;
+              room_is = room_is';
+              observations = v.observations;
+              count = v.count;
+              spots = v.spots;
+              spots_count = v.spots_count;
+              noted = λ i a b. rw (row_same rows slot i inside (n.same ∙ lent)) (v.noted i a b);
+              rest = on ∙ rw (n.is, add-one number);
+              left = on_starts ∙ rw n.is;
+            })
+
+        noted_row : (radar : Bool) → RowTaken t columns columns' y at ln.till k s (step_at t at ln.till s columns k) radar
+            → Reading t columns' first room (set rows slot y) (ln.till + 1) (number + 1) (k + 1) (record { need = Need.Nothing; columns = s.columns; radar = radar })
+        noted_row radar n =
+            let spot = starts_of (take s.columns columns) (fields (between t at ln.till)) at in
             record {
-              lies = record {
-                order = omega arith;
-                in_text = inside;
-                short = omega (arith, inside, v.short);
-                parts_are = c.parts_is ∙ ap (λ (l : List ℕ). length (fields l)) (ap (λ (l : List ℕ). first_line l) r ∙ sym line_is);
-              };
-              wide = omega (arith, v.wide);
-              known = v.known;
-            },
-            c.right_is ∙ ap (λ (l : List ℕ). printable l) (ap (λ (l : List ℕ). first_line l) r ∙ sym line_is),
-          )
+              at_most = omega (arith, l.ended);
+              short = v.short;
+              lines_few = omega (arith, v.lines_few, l.order);
+              rows_few = omega (arith, n.few);
+              wide = wide ∙ v.wide;
+              known = record { few = v.known.few; known = rw n.same v.known.known };
+              room_is = room_is';
+              observations = v.observations ++ (n.got ∷ []);
+              count = length-append v.observations (n.got ∷ []) ∙ ap (λ (z : ℕ). z + 1) v.count;
+              spots = v.spots ++ (spot ∷ []);
+              spots_count = length-append v.spots (spot ∷ []) ∙ ap (λ (z : ℕ). z + 1) v.spots_count;
+              noted = λ i a b.
+                  bools (eqb (first + i) k)
+                  (λ g.
+                  let p : first + i ≡ k = eqb-true (first + i) k g in
+                  let w : i ≡ slot = sym (slot_is.0 ∙ slot_own first room k i a p) in
+                  rw (w, row_own rows slot y inside, ← w, p, get_d_last v.observations n.got [] k v.count, get_d_last v.spots spot [] k v.spots_count) n.notes)
+                  (λ g.
+                  let m : first + i < k = omega (arith, eqb-false (first + i) k g) in
+                  let mr : first + i < length v.observations = omega (arith, v.count) in
+                  let ms : first + i < length v.spots = omega (arith, v.spots_count) in
+                  let w : i ≡ slot → ⊥ = λ z. slot_other first room k i a m (sym slot_is.0 ∙ sym z) in
+                  rw (get_or-append v.observations (n.got ∷ []) [] (first + i) mr, get_or-append v.spots (spot ∷ []) [] (first + i) ms, row_other rows slot i y w)
+                  (v.noted i a m));
+              rest = on ∙ (rw (n.is, n.kind_is, add-one number, add-one k, n.same) (prefix_snoc v.observations n.got _));
+              left = on_starts ∙ rw (n.is, n.kind_is, add-one k, n.same, append_assoc);
+            }
 
-      split : lines (drop at t) ≡ line (between t at (at + size)) (lines (drop (at + size + 1) t))
-      split =
-          let g : up_to 10 (drop at t) < length (drop at t) = omega (arith, inside, size_is, length-drop at t) in
-          let d : at + suc size ≡ at + size + 1 = omega arith in
-          lines_line (drop at t) g ∙ rw (← size_is, drop-drop, d, line_is)
-
-      line_long : at + suc (length (between t at (at + size))) ≡ at + size + 1
-      line_long = omega (arith, length-take (at + size - at) (drop at t), length-drop at t, inside)
-
-      on : read_from begin 1 0 (lines t)
-          ≡ prefix v.observations (after (step_at t at (at + size) s columns k) number (state_of s columns) k
-          (λ s' k'. read_from s' (suc number) k' (lines (drop (at + size + 1) t))))
-      unfolding read_from
-      on = v.rest ∙ rw split
-
-      on_starts : starts_from begin 0 0 (lines t)
-          ≡ v.spots ++ starts_after (step_at t at (at + size) s columns k) (state_of s columns) k at (between t at (at + size))
-          (λ s' k'. starts_from s' (at + size + 1) k' (lines (drop (at + size + 1) t)))
-      unfolding starts_from
-      on_starts = v.left ∙ rw (split, line_long)
-
-      module _ {columns' : List ℕ} {x y : Row} {r : Result Taken Fault} (took : TookLine t columns columns' x y at (at + size) k s (step_at t at (at + size) s columns k) r) where
-        pub read_bad : {rows' : List Row} {f : Fault} → r ≡ Err f → {z : Refusal} → z ≡ on_line number f → IndexIs t first room rows' (Err z)
-        read_bad {rows'} {f} e g =
-            let b : step_at t at (at + size) s columns k ≡ bad f.kind f.place = rw e at took.case in
-            record { case = rw g (read_short t v.short ∙ (on ∙ rw b (prefix_refused v.observations _))) }
-
-        module _ (wide : length columns' ≡ length columns) {slot : ℕ} (slot_is : slot ≡ slot_of first room k) (slot_in : slot ≤ room) (lent : x ≡ row_at rows slot) where
-          inside' : slot < length rows
-          inside' = omega (arith, v.room_is)
-
-          room_is' : room < length (set rows slot y)
-          room_is' = simp length-set v.room_is
-
-          pub read_next : {s' : CodeState} → {a : Taken} → r ≡ Ok a → a ≡ Taken.Next s' → Reading t columns' first room (set rows slot y) (at + size + 1) (number + 1) k s'
-          read_next {s'} o e =
-              let z : r ≡ Ok (Taken.Next s') = o ∙ ap Ok e in
-              let n : NextIs columns' x y (step_at t at (at + size) s columns k) s' = rw z at took.case in
-              record {
-                at_most = omega (arith, inside);
-                short = v.short;
-                lines_few = omega (arith, v.lines_few);
-                rows_few = v.rows_few;
-                wide = wide ∙ v.wide;
-                known = n.known;
-                room_is = room_is';
-                observations = v.observations;
-                count = v.count;
-                spots = v.spots;
-                spots_count = v.spots_count;
-                noted = λ i a b. rw (row_same rows slot i inside' (n.same ∙ lent)) (v.noted i a b);
-                rest = on ∙ rw (n.is, add-one number);
-                left = on_starts ∙ rw n.is;
-              }
-
-          noted_row : (radar : Bool) → RowTaken t columns columns' y at (at + size) k s (step_at t at (at + size) s columns k) radar
-              → Reading t columns' first room (set rows slot y) (at + size + 1) (number + 1) (k + 1) (record { need = Need.Nothing; columns = s.columns; radar = radar })
-          noted_row radar n =
-              let spot = starts_of (take s.columns columns) (fields (between t at (at + size))) at in
-              record {
-                at_most = omega (arith, inside);
-                short = v.short;
-                lines_few = omega (arith, v.lines_few);
-                rows_few = omega (arith, n.few);
-                wide = wide ∙ v.wide;
-                known = record { few = v.known.few; known = rw n.same v.known.known };
-                room_is = room_is';
-                observations = v.observations ++ (n.got ∷ []);
-                count = length-append v.observations (n.got ∷ []) ∙ ap (λ (z : ℕ). z + 1) v.count;
-                spots = v.spots ++ (spot ∷ []);
-                spots_count = length-append v.spots (spot ∷ []) ∙ ap (λ (z : ℕ). z + 1) v.spots_count;
-                noted = λ i a b.
-                    bools (eqb (first + i) k)
-                    (λ g.
-                    let p : first + i ≡ k = eqb-true (first + i) k g in
-                    let w : i ≡ slot = sym (slot_is ∙ slot_own first room k i a p) in
-                    rw (w, row_own rows slot y inside', ← w, p, get_d_last v.observations n.got [] k v.count, get_d_last v.spots spot [] k v.spots_count) n.notes)
-                    (λ g.
-                    let m : first + i < k = omega (arith, eqb-false (first + i) k g) in
-                    let mr : first + i < length v.observations = omega (arith, v.count) in
-                    let ms : first + i < length v.spots = omega (arith, v.spots_count) in
-                    let w : i ≡ slot → ⊥ = λ z. slot_other first room k i a m (sym slot_is ∙ sym z) in
-                    rw (get_or-append v.observations (n.got ∷ []) [] (first + i) mr, get_or-append v.spots (spot ∷ []) [] (first + i) ms, row_other rows slot i y w)
-                    (v.noted i a m));
-                rest = on ∙ (rw (n.is, n.kind_is, add-one number, add-one k, n.same) (prefix_snoc v.observations n.got _));
-                left = on_starts ∙ rw (n.is, n.kind_is, add-one k, n.same, append_assoc);
-              }
-
-          pub read_row : {radar : Bool} {a : Taken} → r ≡ Ok a → a ≡ Taken.Noted radar
-              → Reading t columns' first room (set rows slot y) (at + size + 1) (number + 1) (k + 1) (record { need = Need.Nothing; columns = s.columns; radar = radar })
-          read_row {radar} o e =
-              let z : r ≡ Ok (Taken.Noted radar) = o ∙ ap Ok e in
-              noted_row radar (rw z at took.case)
+        pub read_row : {radar : Bool} {a : Taken} → r ≡ Ok a → a ≡ Taken.Noted radar
+            → Reading t columns' first room (set rows slot y) at' number' (k + 1) (record { need = Need.Nothing; columns = s.columns; radar = radar })
+        read_row {radar} o e =
+            let z : r ≡ Ok (Taken.Noted radar) = o ∙ ap Ok e in
+            rw (l.at_is, l.number_on) (noted_row radar (rw z at took_at.case))

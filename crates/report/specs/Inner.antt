@@ -4,10 +4,10 @@ use Rattle.std.specs.Bool.{beq}
 use Rattle.std.specs.Int.Bits.{bit_or}
 use Rattle.text.specs.Bytes.{bytes}
 use Rattle.text.specs.Part.{same}
-use Rattle.text.specs.Lines.{fields}
+use Rattle.text.specs.Lines.{up_to, fields, ScannedIs}
 use Rattle.text.specs.declared.lines.Span.{Span}
 use Rattle.refusal.specs.Paper.{at}
-use Rattle.refusal.specs.declared.Kind.TheVariants.{BlockUnfinished, KindsMixed}
+use Rattle.refusal.specs.declared.Kind.TheVariants.{NoLineEnd, BlockUnfinished, KindsMixed}
 use Rattle.refusal.specs.declared.Refusal.{Refusal}
 use Rattle.refusal.specs.declared.Fault.{Fault}
 use Rattle.element.specs.Set.{has}
@@ -18,6 +18,7 @@ use Rattle.report.specs.Starts.{starts_of, starts_in}
 use Rattle.report.specs.Answers.{shown_of, showing_paper, showing_answer}
 use Rattle.report.specs.Index.{Shows, Noted}
 use Rattle.report.specs.declared.index.Row.{Row}
+use Rattle.report.specs.declared.line.Line.{Line}
 use Rattle.report.specs.declared.row.Marks.{Marks}
 use Rattle.report.specs.declared.state.Need.{Need}
 use Rattle.report.specs.declared.state.State.{State as CodeState}
@@ -186,6 +187,25 @@ pub record LineAsks (t columns : List ℕ) (from till parts : ℕ) (s : CodeStat
   pub known : Known s columns
 
 -- ---- the whole text
+
+-- The next line of a text from a place on, and the place after it.
+pub record NextLine (t : List ℕ) (at number : ℕ) (line : Line) (at' number' : ℕ) : Type 0 where
+  pub from_is : line.from ≡ at
+  pub order : at ≤ line.till
+  pub ended : line.till < length t
+  pub scanned : ScannedIs (take (length t - at) (drop at t)) (line.till - at) line.printable line.fields
+  pub number_is : line.number ≡ number
+  pub at_is : at' ≡ line.till + 1
+  pub number_on : number' ≡ number + 1
+
+abbrev pub NextCase : List ℕ → ℕ → ℕ → ℕ → ℕ → Result (Option Line) Refusal → Type 0
+NextCase t at number at' number' (Ok None) = (length t ≤ at) × (at' ≡ at) × (number' ≡ number)
+NextCase t at number at' number' (Ok (Some line)) = NextLine t at number line at' number'
+NextCase t at number at' number' (Err r) =
+    (at < length t) × (up_to 10 (drop at t) ≡ length (drop at t)) × (r ≡ record { kind = NoLineEnd; line = number; place = 0 })
+
+pub record NextIn (t : List ℕ) (at number at' number' : ℕ) (r : Result (Option Line) Refusal) : Type 0 where
+  pub case : NextCase t at number at' number' r
 
 -- The row of the index for observation k: those from the first on have rows 0, 1, .., as many as there is room for; all others the last.
 unfoldable pub slot_of : ℕ → ℕ → ℕ → ℕ

@@ -1,212 +1,173 @@
-// The sources of a report: reports that were read one after the other as one text. Of each it is noted where it ends there, by its number;
-// the entry before the first is 0. The names are those of the report and of its sources, parted by bytes 0.
+// The sources of a report: reports that were read one after the other as one text.
+ghost use Rattle.std.specs.Prelude.{length};
+ghost use Rattle.std.specs.Iterator.{at_most};
+
 use comparison::Compared;
 use explain::elements::print_name;
 use inspect::part;
-use report::answer::Checked;
 use std::io;
-use text::part::{front, tail};
-use words::number::sum;
+use text::part::tail;
 use words::print;
 
 // The byte between two names.
 const PARTING: u8 = 0;
 
-// Prints what comparing the sources with a report came to, in a fixed line: `same N`, or `differ observation N element E`.
-pub fn print_first(rt: &impl Print, found: Compared) -> io::Result<()> {
-    match found {
-        Compared::Same(observations) => print::between(rt, b"same ", observations as u64, b"\n"),
-        Compared::Differ(observation, element) => {
-            print::between(rt, b"differ observation ", observation as u64, b"")?;
-            print::between(rt, b" element ", element as u64, b"\n")
-        }
-        _ => print::bytes(rt, b"differ observation 0 element 0\n"),
+// The sources that are left: their names, parted by bytes 0, their texts one after the other, and how long each text is.
+#[derive(Clone, Copy)]
+pub struct Sources<'a> {
+    pub names: &'a [u8],
+    pub texts: &'a [u8],
+    pub lengths: &'a [usize],
+}
+
+// A source: its name and its text.
+#[derive(Clone, Copy)]
+pub struct Source<'a> {
+    name: &'a [u8],
+    text: &'a [u8],
+}
+
+impl<'a> Iterator for Sources<'a> {
+    type Item = Source<'a>;
+
+    ghost remaining = { λ s. at_most (length s.lengths.now) };
+
+    fn next(&mut self) -> Option<Source<'a>> {
+        let (length, lengths) = self.lengths.split_first()?;
+        let (text, texts) = self.texts.split_at((*length).min(self.texts.len()));
+        let name = part::part(self.names, 0, PARTING);
+        *self = Sources {
+            names: tail(self.names, part::after(self.names, 0, PARTING)),
+            texts,
+            lengths,
+        };
+        Some(Source { name, text })
     }
 }
 
-// Prints the sources: the name, the bytes and the observations of each.
-pub fn print_sources(
-    rt: &impl Print,
-    names: &[u8],
-    joined: &[u8],
-    ends: &[usize],
-) -> io::Result<()> {
-    let sources = part::count(names, PARTING);
-    let mut before: u64 = 0;
-    let mut k: usize = 0;
-    while k < sources {
-        k += 1;
-        let text = source(joined, ends, k);
-        before = print_source(rt, k, part::numbered(names, k, PARTING), text, before)?;
+// Prints what comparing the sources with a report came to, in a fixed line: `same N`, or `differ observation N element E`.
+pub fn print_first(rt: &impl Print, found: Compared) -> io::Result<()> {
+    match found {
+        Compared::Same(observations) => println!(rt; "same {observations}"),
+        Compared::Differ(observation, element) => println!(rt;
+            "differ observation {observation} element {element}"
+        ),
+        _ => println!(rt; "differ observation 0 element 0"),
+    }
+}
+
+// Prints the sources: the name, the bytes and the observations of each, and by which numbers all the observations together have those.
+pub fn print_sources(rt: &impl Print, sources: Sources) -> io::Result<()> {
+    let mut before: usize = 0;
+    for (index, source) in sources.enumerate() {
+        let till = before.saturating_add(observations(source.text));
+        print!(rt; "Source {}: ", index + 1)?;
+        print::bytes(rt, source.name)?;
+        print!(rt; ", {} bytes, ", source.text.len())?;
+        print_numbers(rt, before, till)?;
+        before = till;
     }
     Ok(())
 }
 
-// Prints a source, by its number: its name, its bytes and its observations, so many of the others standing before them; says how many stand
-// before those of the next.
-fn print_source(
-    rt: &impl Print,
-    number: usize,
-    name: &[u8],
-    text: &[u8],
-    before: u64,
-) -> io::Result<u64> {
-    let till = sum(before, observations(text) as u64);
-    print::between(rt, b"Source ", number as u64, b": ")?;
-    print::bytes(rt, name)?;
-    print::between(rt, b", ", text.len() as u64, b" bytes, ")?;
-    print_numbers(rt, before, till)?;
-    Ok(till)
-}
-
 // Prints the observations after one and up to another, by their numbers.
-fn print_numbers(rt: &impl Print, before: u64, till: u64) -> io::Result<()> {
+fn print_numbers(rt: &impl Print, before: usize, till: usize) -> io::Result<()> {
     if before < till {
-        print::between(rt, b"observations ", before + 1, b"")?;
-        print::between(rt, b" to ", till, b".\n")
+        println!(rt; "observations {} to {till}.", before + 1)
     } else {
-        print::bytes(rt, b"no observations.\n")
+        println!(rt; "no observations.")
     }
 }
 
-// Prints whether a report holds the observations of its sources, and where it does not the first difference.
+// Prints whether a report of a name holds the observations of its sources, and where it does not the first difference.
 pub fn print_answer(
     rt: &impl Print,
-    names: &[u8],
+    name: &[u8],
     report: &[u8],
-    joined: &[u8],
-    ends: &[usize],
+    sources: Sources,
     found: Compared,
 ) -> io::Result<()> {
-    print::bytes(
-        rt,
-        b"2. Does it hold the observations of its sources, in the same order? ",
-    )?;
+    print!(rt; "2. Does it hold the observations of its sources, in the same order? ")?;
     match found {
-        Compared::Same(observations) => print::between(
-            rt,
-            b"Yes, all ",
-            observations as u64,
-            b".\n",
-        )?,
+        Compared::Same(observations) => println!(rt; "Yes, all {observations}.")?,
         Compared::Differ(observation, element) => {
-            print_whose(rt, names, joined, ends, observation)?;
-            print_values(rt, names, report, joined, observation, element)?;
+            print_whose(rt, sources, observation)?;
+            print_values(rt, name, report, sources.texts, observation, element)?;
         }
-        _ => print::bytes(rt, b"No.\n")?,
+        _ => println!(rt; "No.")?,
     }
-    print::bytes(
-        rt,
-        b"   Proved of every two texts: they are the same exactly where both are accepted as one list of\n\
-          \x20  observations, `same-reads`, `reads-same` (crates/comparison/proofs/Same.antt).\n",
+    println!(rt;
+        "   Proved of every two texts: they are the same exactly where both are accepted as one list of\n\
+         \x20  observations, `same-reads`, `reads-same` (crates/comparison/proofs/Same.antt)."
     )
 }
 
-// An observation of a source, both by number; source 0 where there is none.
+// An observation of a source, by the source's name and its own number.
 #[derive(Clone, Copy)]
-struct Whose {
-    source: usize,
+struct Whose<'a> {
+    source: &'a [u8],
     observation: usize,
 }
 
 // Prints that an observation is the first that differs, and which one of which source it is.
-fn print_whose(
-    rt: &impl Print,
-    names: &[u8],
-    joined: &[u8],
-    ends: &[usize],
-    observation: usize,
-) -> io::Result<()> {
-    let whose = whose_is(joined, ends, part::count(names, PARTING), observation);
-    print::between(
-        rt,
-        b"No.\n   The first that differs is observation ",
-        observation as u64,
-        b", ",
-    )?;
-    if 0 < whose.source {
-        print::between(rt, b"observation ", whose.observation as u64, b" of ")?;
-        print::bytes(rt, part::numbered(names, whose.source, PARTING))?;
-        print::bytes(rt, b".\n")
-    } else {
-        print::bytes(rt, b"which no source has.\n")
+fn print_whose(rt: &impl Print, sources: Sources, observation: usize) -> io::Result<()> {
+    print!(rt; "No.\n   The first that differs is observation {observation}, ")?;
+    match whose_is(sources, observation) {
+        Some(whose) => {
+            print!(rt; "observation {} of ", whose.observation)?;
+            print::bytes(rt, whose.source)?;
+            println!(rt; ".")
+        }
+        None => println!(rt; "which no source has."),
     }
 }
 
-// Which observation of which source, of so many, one of all of them is.
-fn whose_is(joined: &[u8], ends: &[usize], sources: usize, observation: usize) -> Whose {
+// Which observation of which source one of all of them is, if a source has it.
+fn whose_is(sources: Sources, observation: usize) -> Option<Whose> {
     let mut number = observation;
-    let mut k: usize = 0;
-    while k < sources {
-        k += 1;
-        let count = observations(source(joined, ends, k));
+    for source in sources {
+        let count = observations(source.text);
         if number <= count {
-            return Whose {
-                source: k,
+            return Some(Whose {
+                source: source.name,
                 observation: number,
-            };
+            });
         }
         number -= count;
     }
-    Whose {
-        source: 0,
-        observation,
-    }
+    None
 }
 
 // Prints the values in which an observation differs; none where the sources or the report end before it.
 fn print_values(
     rt: &impl Print,
-    names: &[u8],
+    name: &[u8],
     report: &[u8],
-    joined: &[u8],
+    texts: &[u8],
     observation: usize,
     element: usize,
 ) -> io::Result<()> {
     if element == 0 {
-        print::bytes(
-            rt,
-            b"   The sources and the report have not as many observations.\n",
-        )?;
-        return Ok(());
+        return println!(rt; "   The sources and the report have not as many observations.");
     }
-    let there = report::shown(joined, observation, element);
+    let there = report::shown(texts, observation, element);
     let here = report::shown(report, observation, element);
     print_value(rt, element, b"the sources", there)?;
-    print_value(rt, element, part::numbered(names, 0, PARTING), here)
+    print_value(rt, element, name, here)
 }
 
 // Prints the value of an element, and where it is so.
 fn print_value(rt: &impl Print, element: usize, place: &[u8], value: &[u8]) -> io::Result<()> {
-    print::bytes(rt, b"   Its ")?;
+    print!(rt; "   Its ")?;
     print_name(rt, element)?;
-    print::bytes(rt, b" in ")?;
+    print!(rt; " in ")?;
     print::bytes(rt, place)?;
-    print::bytes(rt, b": ")?;
+    print!(rt; ": ")?;
     print::bytes(rt, value)?;
     print::line_end(rt)
 }
 
-// The text of a source, by its number.
-fn source<'a>(joined: &'a [u8], ends: &[usize], number: usize) -> &'a [u8] {
-    let start = end_of(ends, less(number, 1));
-    front(tail(joined, start), less(end_of(ends, number), start))
-}
-
-// Where a source ends; 0 for one that was not noted.
-fn end_of(ends: &[usize], number: usize) -> usize {
-    if number < ends.len() { ends[number] } else { 0 }
-}
-
-// The first number less the second; 0 where it is smaller.
-fn less(first: usize, second: usize) -> usize {
-    if second < first { first - second } else { 0 }
-}
-
 // How many observations a text holds; none where it is no report.
 fn observations(text: &[u8]) -> usize {
-    match report::check(text) {
-        Checked::Accepted(count) => count,
-        Checked::Refused(_) => 0,
-    }
+    report::check(text).unwrap_or(0)
 }

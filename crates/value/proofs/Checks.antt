@@ -15,9 +15,8 @@ use Rattle.value.specs.Check.{less_value}
 use Rattle.value.specs.Covariance.{is_scaled, size, power, scaled_as, covariance}
 use Rattle.value.specs.Decimal.{is_decimal, places, is_too_wide, Any, Positive, Unit, is_within, decimal_of, decimal_in, decimal, correlation}
 use Rattle.value.specs.Sign.{is_minus, bare, with_sign}
-use Rattle.value.specs.Time.{is_time, is_moment, day_of, microseconds, obs_time}
 use Rattle.value.specs.declared.Value.{Value}
-use Rattle.value.specs.declared.Value.TheVariants.{Time, Angle}
+use Rattle.value.specs.declared.Value.TheVariants.{Angle}
 
 -- A value of a form, in a range.
 abbrev in_range : Bool → Bool → Value → Result Value Kind
@@ -46,10 +45,6 @@ any_range kind false false range value e = cc
 
 -- A text in which a check finds no fault passes each test of its form.
 module _ (text : List ℕ) where
-  pub found_time : Ok tt ≡ less_value (obs_time text) → (is_time text ≡ true) × (is_moment text ≡ true)
-  unfolding obs_time
-  found_time e = in_range_lem (is_time text) (is_moment text) (Time (day_of text) (microseconds text)) e
-
   pub found_ascension : Ok tt ≡ less_value (right_ascension text) → (is_right_ascension text ≡ true) × (ltb (units text) 360000000000 ≡ true)
   unfolding right_ascension
   found_ascension e = in_range_lem (is_right_ascension text) (ltb (units text) 360000000000) (Angle (pos (units text))) e

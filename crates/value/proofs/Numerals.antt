@@ -1,7 +1,7 @@
 -- Laws of numbers that parts of a text make, and of the places and the width of a decimal.
 use Prim.Native.Nat.{ℕ, suc, ◌+◌, ◌-◌, ◌*◌, ◌^◌, ◌≤◌, ◌<◌}
 use mathlib.Core.Path.{◌≡◌, refl, ap, sym, ◌∙◌}
-use mathlib.Core.Bool.{Bool, true, false, cond, ◌&&◌, ◌||◌}
+use mathlib.Core.Bool.{false, ◌&&◌}
 use mathlib.Core.List.{List, [], ◌∷◌, ◌++◌}
 use native.Mathlib.Nat.{le_trans, lt_of_lt_of_le, mul_assoc, mul_comm, mul-le-mul_right, pow-suc}
 use native.Mathlib.Omega.{arith}
@@ -15,7 +15,7 @@ use Rattle.text.proofs.Bools.{bools, both, neither, never}
 use Rattle.text.proofs.Classes.{digit_range}
 use Rattle.text.proofs.Numbers.{number_front, number_small}
 use Rattle.text.proofs.Parts.{take_below}
-use Rattle.value.specs.Decimal.{places, is_too_wide, Any, Positive, is_within}
+use Rattle.value.specs.Decimal.{places, is_too_wide}
 use Rattle.value.specs.Numeral.{digits, part}
 
 -- The first 18 bytes of a part of at most 18 bytes are all of it.
@@ -37,11 +37,6 @@ places_le s = omega arith
 pub narrow : (width : ℕ) (s : List ℕ) → is_too_wide width s ≡ false → length s ≤ 18
 unfolding is_too_wide
 narrow width s e = ltb-false 18 (length s) (neither (ltb width (length s)) (ltb 18 (length s)) e).1
-
--- A signed decimal may have any value, another one those above zero.
-pub within_is : (signed : Bool) (whole count : ℕ) → is_within (cond signed Any Positive) whole count ≡ signed || ltb 0 whole
-within_is true whole count = refl
-within_is false whole count = refl
 
 -- Digits put after others.
 pub number_append : (n : ℕ) (a b : List ℕ) → number n (a ++ b) ≡ number (number n a) b

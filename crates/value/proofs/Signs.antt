@@ -1,26 +1,13 @@
--- Laws of signed numbers of 64 bits: a number below zero, and a difference.
-use Prim.Native.Nat.{ℕ, zero, suc, ◌^◌, ◌≤◌, ◌<◌}
+-- Laws of signed numbers of 64 bits: a difference.
+use Prim.Native.Nat.{ℕ, suc, ◌≤◌}
 use mathlib.Core.Path.{◌≡◌}
 use native.Mathlib.Omega.{arith}
 use lib.Dec.{ltb}
-use lib.IntN.{sub_ℕ, pos, neg_ℤ, ◌-ℤ◌, +ℤ_idl}
+use lib.IntN.{sub_ℕ, pos, ◌-ℤ◌}
 use mir.Facts.{to_z_pos, to_z-of_z}
 use mir.Syntax.{w64}
 use mir.Val.{SFits, to_z, of_z}
 use Rattle.text.proofs.Bools.{bools}
-
--- A number below zero fits 64 bits.
-negative_fits : (n : ℕ) → n < 2 ^ 63 → SFits w64 (neg_ℤ (pos n))
-negative_fits zero h = record { sfits = h }
-negative_fits (suc n) h = record { sfits = omega arith }
-
--- `0 - n` is -n.
-module _ (n : ℕ) (h : n < 2 ^ 63) where
-  pub minus_fits : SFits w64 (pos 0 -ℤ to_z w64 n)
-  minus_fits = rw (to_z_pos w64 h, +ℤ_idl (neg_ℤ (pos n))) (negative_fits n h)
-
-  pub minus_is : to_z w64 (of_z w64 (pos 0 -ℤ to_z w64 n)) ≡ neg_ℤ (pos n)
-  minus_is = rw (to_z_pos w64 h, +ℤ_idl (neg_ℤ (pos n))) (to_z-of_z (negative_fits n h))
 
 -- A difference fits 64 bits.
 pub difference_fits : (a b : ℕ) → a ≤ 1000000000000000000 → b ≤ 1000000000000000000 → SFits w64 (sub_ℕ a b)

@@ -39,10 +39,10 @@ pub fn check_covariance(text: &[u8]) -> Result<(), Kind>
     if WIDTH < rest.len() {
         return Err(Kind::TooWide);
     }
-    if is_scaled(rest, before_mark(rest)) {
-        return Ok(());
+    if !is_scaled(rest, before_mark(rest)) {
+        return Err(Kind::WrongForm);
     }
-    Err(Kind::WrongForm)
+    Ok(())
 }
 
 // Whether a text without sign whose first `e` or `E` stands after so many bytes is in decimal or exponential form.
@@ -52,7 +52,7 @@ fn is_scaled(text: &[u8], before: usize) -> bool
     ensures { result ≡ is_scaled text.now }
 {
     Unsigned::of(front(text, before)).is_decimal()
-        & ((before == text.len()) | is_exponent(tail(tail(text, before), 1)))
+        && (before == text.len() || is_exponent(tail(tail(text, before), 1)))
 }
 
 // Whether a text is an optional sign and one to three digits.
@@ -61,7 +61,7 @@ fn is_exponent(text: &[u8]) -> bool
     ensures { result ≡ is_exponent text.now }
 {
     let rest = bare(text, true);
-    is_digits(rest) & (rest.len() <= 3)
+    is_digits(rest) && rest.len() <= 3
 }
 
 // How many bytes of a text stand before the first `e` or `E`: all where there is none.

@@ -1,11 +1,11 @@
 -- Laws of numbers in digits that stop at the largest.
-use Prim.Native.Nat.{ℕ, ◌+◌, ◌*◌, ◌/◌, ◌-◌, ◌≤◌, ◌<◌, min}
-use mathlib.Core.Path.{◌≡◌}
+use Prim.Native.Nat.{ℕ, ◌≤◌, ◌<◌, min}
+use mathlib.Core.Path.{◌≡◌, ◌∙◌, refl}
 use mathlib.Core.List.{List, [], ◌∷◌}
 use native.Mathlib.Omega.{arith}
-use native.Mathlib.Nat.{le-div_iff_mul-le, div-lt_iff_lt-mul}
 use lib.Dec.{ltb}
 use borrow.Author.Tests.{ltb-true, ltb-false}
+use Rattle.std.specs.List.{fold}
 use Rattle.text.specs.Class.{is_digit}
 use Rattle.text.specs.Digits.{after, number}
 use Rattle.text.proofs.Bools.{bools}
@@ -28,9 +28,9 @@ stays n m text e =
     (λ more. let h : largest < n = ltb-true _ _ more in omega (arith, grows n text, grows m text))
     (λ few. let h : n ≤ largest = ltb-false _ _ few in let s : m ≡ n = omega arith in rw s)
 
--- Whether a number with a digit after it is within the largest, tested without passing it.
-pub within : (n digit : ℕ) → digit ≤ 9 → n ≤ (largest - digit) / 10 → n * 10 + digit ≤ largest
-within n digit few h = let k : n * 10 ≤ largest - digit = (le-div_iff_mul-le {k = 10} (omega arith)).0 h in omega arith
-
-pub past : (n digit : ℕ) → digit ≤ 9 → (largest - digit) / 10 < n → largest ≤ n * 10 + digit
-past n digit few h = let k : largest - digit < n * 10 = (div-lt_iff_lt-mul {k = 10} (omega arith)).0 h in omega arith
+-- Digits put one after the other, at most the largest each time, come to the number that they make, at most the largest.
+pub fold_is : (n : ℕ) (text : List ℕ) → n ≤ largest → fold (λ n b. min (after n b) largest) n text ≡ min (number n text) largest
+unfolding number
+fold_is n [] h = omega arith
+fold_is n (b ∷ text) h =
+    fold_is (min (after n b) largest) text (omega arith) ∙ stays (after n b) (min (after n b) largest) text refl

@@ -6,70 +6,50 @@ ghost use Rattle.words.specs.Numbers.{largest, number_in};
 use text::class;
 use text::class::Class;
 
-// The largest number that is told apart.
-const LARGEST: u64 = 18446744073709551615;
-
-// What a word says: a number, or something else.
-#[derive(Clone, Copy)]
-pub enum Number {
-    Is(u64),
-    Nothing,
-}
-
-// The number of a word of digits; one past the largest counts as the largest.
-pub fn read(word: &[u8]) -> Number
+// The number of a word of digits, where one past the largest counts as the largest; none of another word.
+#[tactic(auto, unfolding(crate::specs::Numbers::number_in))]
+pub fn read(word: &[u8]) -> Option<u64>
     ensures { result ≡ number_in word.now }
 {
-    if word.len() == 0 {
-        return Number::Nothing;
+    if word.is_empty() {
+        return None;
     }
     if class::is_only(Class::Digit, word) {
-        return Number::Is(number_of(word));
+        Some(number_of(word))
+    } else {
+        None
     }
-    Number::Nothing
 }
 
 // The number that the digits of a text make, at most the largest.
 fn number_of(text: &[u8]) -> u64
     ensures { result ≡ min (made 0 text.now) largest }
 {
-    let mut n: u64 = 0;
-    let mut i: usize = 0;
-    while i < text.len() {
-        n = after(n, text[i]);
-        i += 1;
-    }
-    n
+    text.iter().fold(0, |n, byte| after(n, *byte))
 }
 
 // A digit put after a number, at most the largest; any other byte leaves it.
+#[tactic(auto, unfolding(text::specs::Digits::after))]
 fn after(n: u64, byte: u8) -> u64
     ensures { result ≡ min (put n byte) largest }
 {
     if class::is_of(Class::Digit, byte) {
-        let digit = (byte - 48) as u64;
-        if n <= (LARGEST - digit) / 10 {
-            return n * 10 + digit;
-        }
-        return LARGEST;
+        n.saturating_mul(10).saturating_add(u64::from(byte - b'0'))
+    } else {
+        n
     }
-    n
 }
 
 // The sum of two numbers, at most the largest.
 pub fn sum(a: u64, b: u64) -> u64
     ensures { result ≡ min (a + b) largest }
 {
-    if a <= LARGEST - b { a + b } else { LARGEST }
+    a.saturating_add(b)
 }
 
 // A signed number without its sign.
 pub fn magnitude(n: i64) -> u64
     ensures { result ≡ nat_abs n }
 {
-    if n < 0 {
-        (-(n + 1)) as u64 + 1
-    } else {
-        n as u64
-    }
+    n.unsigned_abs()
 }

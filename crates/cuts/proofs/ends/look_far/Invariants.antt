@@ -6,7 +6,7 @@ use Rattle.cuts.specs.Look.{Looked}
 use Rattle.cuts.proofs.ends.look_far.Given as goal
 
 abbrev pub invariant-loop-look : goal.invariant-loop-look
-invariant-loop-look l = Looked l.runs l.after l.look × (l.look.from ≡ l.initial.look.from)
+invariant-loop-look l = Looked l.ahead.runs.now l.ahead.after.now l.look × (l.look.from ≡ l.initial.look.from)
 
 abbrev pub decreases-loop-look : goal.decreases-loop-look
-decreases-loop-look l = length l.runs - l.look.end
+decreases-loop-look l = length l.ahead.runs.now - l.look.end

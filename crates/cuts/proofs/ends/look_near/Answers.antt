@@ -5,6 +5,4 @@ use Rattle.cuts.proofs.ends.look_near.Goals as goal
 
 pub look_further-look-requires : goal.look_further-look-requires
 look_further-look-requires c =
-    let loop = c.loop-look in
-    let pre = c.requires in
-    (pre.0, loop.invariant.looked, omega (arith, near_inside _ _ _ pre.1 _ loop.invariant c.loop-look-test.true))
+    (c.loop-look.invariant.looked, omega (arith, near_inside _ _ _ c.requires _ c.loop-look.invariant c.loop-look-test.true))

@@ -5,7 +5,7 @@ use Rattle.cuts.proofs.LookLaws.{Nearing}
 use Rattle.cuts.proofs.ends.look_near.Given as goal
 
 abbrev pub invariant-loop-look : goal.invariant-loop-look
-invariant-loop-look l = Nearing l.runs l.after l.look
+invariant-loop-look l = Nearing l.ahead.runs.now l.ahead.after.now l.look
 
 abbrev pub decreases-loop-look : goal.decreases-loop-look
-decreases-loop-look l = length l.runs - l.look.end
+decreases-loop-look l = length l.ahead.runs.now - l.look.end

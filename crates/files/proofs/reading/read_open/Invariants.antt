@@ -1,9 +1,9 @@
-use Rattle.std.proofs.Common.{◌-◌, length, ◌≤◌, ◌≡◌}
+use Rattle.std.proofs.Common.{length, ◌≤◌, ◌≡◌}
 use Rattle.files.proofs.reading.read_open.Given as goal
 
--- What was read lies within the room, which stays as long as it is.
-abbrev pub invariant-loop-at : goal.invariant-loop-at
-invariant-loop-at g l = (l.at ≤ length l.initial.space) × (length l.space ≡ length l.initial.space)
+-- What is left of the space lies within it.
+abbrev pub invariant-loop-file : goal.invariant-loop-file
+invariant-loop-file g l = (l.room ≡ length l.fn.space) × (length l.left ≤ l.room)
 
-abbrev pub decreases-loop-at : goal.decreases-loop-at
-decreases-loop-at g l = length l.initial.space - l.at
+abbrev pub decreases-loop-file : goal.decreases-loop-file
+decreases-loop-file g l = length l.left

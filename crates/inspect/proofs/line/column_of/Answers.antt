@@ -1,6 +1,6 @@
 -- `inspect::line::column_of` meets its contract.
 use native.Mathlib.Omega.{arith}
-use mathlib.Core.Path.{◌≡◌, ap, ◌∙◌}
+use mathlib.Core.Path.{ap, ◌∙◌}
 use Rattle.std.specs.Prelude.{unwrap_or}
 use Rattle.text.specs.Numbered.{numbered}
 use Rattle.inspect.proofs.LineLaws.{column_start, column_on, column_here, column_end, numbered_some, number_back}

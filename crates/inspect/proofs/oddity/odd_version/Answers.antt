@@ -1,18 +1,27 @@
 -- `inspect::oddity::odd_version` meets its contract.
-use Rattle.inspect.proofs.OddityLaws.{version_right, version_blanks, version_other}
+use Prim.Native.Nat.{ℕ}
+use lib.ListN.{drop, take}
+use mathlib.Core.List.{List}
+use mathlib.Core.Path.{◌≡◌, ap, sym, ◌∙◌}
+use Rattle.text.specs.Lines.{trim, TrimmedIs}
+use Rattle.text.specs.Part.{same}
+use Rattle.report.specs.Report.{version_line}
+use Rattle.inspect.specs.Oddity.{odd_version}
 use Rattle.inspect.proofs.oddity.odd_version.Goals as goal
 
-pub returns-then-same : goal.returns-then-same
-returns-then-same c = version_right _ _ c.same.ensures c.if-same.true
+-- The line without the blanks around it is the version line where its part is.
+words_are : {line rest words : List ℕ} {start size : ℕ} → TrimmedIs line start size → rest ≡ drop start line → words ≡ take size rest
+    → same (trim line) version_line ≡ same words version_line
+words_are t r w = ap (λ (x : List ℕ). same x version_line) (sym (w ∙ rw r t.value))
 
 pub returns-then-same-2 : goal.returns-then-same-2
+unfolding odd_version
 returns-then-same-2 c =
-    let front = c in
-    let trimmed = front in
-    version_blanks _ _ trimmed.same.ensures trimmed.if-same.false trimmed.trimmed-words.ensures _ _ front.tail.ensures front.front.ensures _ c.same-2.ensures c.if-same-2.true
+    let words = words_are c.trimmed-words.ensures c.tail.ensures c.front.ensures in
+    rw (sym c.same.ensures ∙ c.if-same.false, words ∙ sym c.same-2.ensures ∙ c.if-same-2.true)
 
 pub returns : goal.returns
+unfolding odd_version
 returns c =
-    let front = c in
-    let trimmed = front in
-    version_other _ _ trimmed.same.ensures trimmed.if-same.false trimmed.trimmed-words.ensures _ _ front.tail.ensures front.front.ensures _ c.same-2.ensures c.if-same-2.false
+    let words = words_are c.trimmed-words.ensures c.tail.ensures c.front.ensures in
+    rw (sym c.same.ensures ∙ c.if-same.false, words ∙ sym c.same-2.ensures ∙ c.if-same-2.false)

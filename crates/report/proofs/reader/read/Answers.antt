@@ -1,74 +1,62 @@
 use mathlib.Core.Path.{refl}
 use native.Mathlib.Omega.{arith}
-use Rattle.report.proofs.ReaderLaws.{read_start, read_long, read_ends, read_cut, line_fits, line_asks, read_bad, read_next, read_row}
+use Rattle.std.proofs.lemmas.Result.{err_from_is_err_and}
+use Rattle.report.specs.Inner.{NextLine}
+use Rattle.report.proofs.ReaderLaws.{read_start, read_long, read_ends, read_cut, line_asks, read_bad, read_next, read_row, line_of, end_of, cut_of}
 use Rattle.report.proofs.reader.read.Goals as goal
-use Rattle.report.proofs.reader.read.Goals.{in-Next, in-Noted}
+use Rattle.report.proofs.reader.read.Goals.{In-Some}
+
+-- The line that is read next.
+line : (c : In-Some) → NextLine c.args.report.now c.loop-line.place.at c.loop-line.place.number c.in-Some.line c.next.new.self.at c.next.new.self.number
+line c = line_of c.next.ensures c.in_ok-line.was c.in-Some.is
 
 pub returns-then-report-gt-TEXT_LIMIT : goal.returns-then-report-gt-TEXT_LIMIT
 returns-then-report-gt-TEXT_LIMIT c = read_long c.if-report-gt-TEXT_LIMIT.true refl
 
-pub loop-at-init : goal.loop-at-init
-loop-at-init c = read_start refl c.if-report-gt-TEXT_LIMIT.false c.requires
+pub loop-line-init : goal.loop-line-init
+loop-line-init c = read_start refl c.if-report-gt-TEXT_LIMIT.false c.requires
 
-pub slice_bounds-scan-start : goal.slice_bounds-scan-start
-slice_bounds-scan-start c = omega (arith, c.loop-at.invariant.at_most)
+pub next-requires : goal.next-requires
+next-requires c = (c.loop-line.invariant.lines_few, c.loop-line.invariant.short)
 
-pub overflow_add-till : goal.overflow_add-till
-overflow_add-till c = omega (arith, line_fits c.loop-at.invariant c.loop-at-test.true c.scan-scanned.ensures, c.loop-at.invariant.short)
-
-pub returns-then-till-report : goal.returns-then-till-report
-returns-then-till-report c = read_cut c.loop-at.invariant c.loop-at-test.true c.scan-scanned.ensures c.if-till-report.true refl
-
-pub overflow_add-at : goal.overflow_add-at
-overflow_add-at c = omega (arith, line_fits c.loop-at.invariant c.loop-at-test.true c.scan-scanned.ensures, c.loop-at.invariant.short)
-
-pub overflow_add-number : goal.overflow_add-number
-overflow_add-number c = omega (arith, c.loop-at.invariant.lines_few, c.loop-at.invariant.at_most, c.loop-at.invariant.short)
-
-pub overflow_add-k : goal.overflow_add-k
-overflow_add-k c = omega (arith, c.loop-at.invariant.rows_few)
+pub returns-in_err-line : goal.returns-in_err-line
+returns-in_err-line c =
+    let p = err_from_is_err_and c.from_residual.result c.from_residual.ensures.1 in
+    let cut = cut_of c.next.ensures c.in_err-line.was in
+    rw (p.1, p.2) (read_cut c.loop-line.invariant cut.0 cut.1 cut.2)
 
 pub take_line-requires : goal.take_line-requires
-take_line-requires c =
-    let loop = c.loop-at in
-    let loop-test = c.loop-at-test in
-    let scan = c.scan-scanned in
-    let if2 = c.if-till-report in
-    line_asks loop.invariant loop-test.true scan.ensures if2.false
+take_line-requires c = line_asks c.loop-line.invariant (line (goal.at.take_line-requires c).In-Some)
+
+pub overflow_add-k : goal.overflow_add-k
+overflow_add-k c = omega (arith, c.loop-line.invariant.rows_few)
 
 pub returns-in-Err : goal.returns-in-Err
-returns-in-Err c =
-    let loop = c.loop-at in
-    let loop-test = c.loop-at-test in
-    let scan = c.scan-scanned in
-    let if2 = c.if-till-report in
-    let take-line = c.take_line in
-    read_bad loop.invariant loop-test.true scan.ensures if2.false take-line.ensures c.in-Err.is c.on_line.ensures
+returns-in-Err c = read_bad c.loop-line.invariant (line (goal.at.returns-in-Err c).In-Some) c.take_line.ensures c.in-Err.is c.on_line.ensures
 
-pub loop-at-smaller : goal.loop-at-smaller
-loop-at-smaller c =
-    let loop = c.loop-at in
-    let loop-test = c.loop-at-test in
-    let scan = c.scan-scanned in
-    omega (arith, line_fits loop.invariant loop-test.true scan.ensures, loop-test.true)
+pub loop-line-smaller-in-Next : goal.loop-line-smaller-in-Next
+loop-line-smaller-in-Next c =
+    let l = line (goal.at.loop-line-smaller-in-Next c).In-Some in
+    omega (arith, l.order, l.ended, l.at_is)
 
-pub loop-at-preserved : goal.loop-at-preserved
-loop-at-preserved c =
-    let loop = c.loop-at in
-    let loop-test = c.loop-at-test in
-    let scan = c.scan-scanned in
-    let if2 = c.if-till-report in
-    let take-line = c.take_line in
-    elim c.match-taken.branch [
-      | in-Next w ↦
-          rw (w.state-is, w.k-is)
-          (read_next loop.invariant loop-test.true scan.ensures if2.false take-line.ensures
-          take-line.auto.columns c.slot_of-slot.ensures.0 c.slot_of-slot.ensures.1 refl c.in-Ok.is w.in-Next.is)
-      | in-Noted w ↦
-          rw (w.state-is, w.k-is)
-          (read_row loop.invariant loop-test.true scan.ensures if2.false take-line.ensures
-          take-line.auto.columns c.slot_of-slot.ensures.0 c.slot_of-slot.ensures.1 refl c.in-Ok.is w.in-Noted.is)
-    ]
+pub loop-line-preserved-in-Next : goal.loop-line-preserved-in-Next
+loop-line-preserved-in-Next c =
+    let taken = c.take_line in
+    read_next c.loop-line.invariant (line (goal.at.loop-line-preserved-in-Next c).In-Some) taken.ensures
+    taken.auto.columns c.slot_of-slot.ensures refl c.in-Ok.is c.in-Next.is
+
+pub loop-line-smaller : goal.loop-line-smaller
+loop-line-smaller c =
+    let l = line (goal.at.loop-line-smaller c).In-Some in
+    omega (arith, l.order, l.ended, l.at_is)
+
+pub loop-line-preserved : goal.loop-line-preserved
+loop-line-preserved c =
+    let taken = c.take_line in
+    read_row c.loop-line.invariant (line (goal.at.loop-line-preserved c).In-Some) taken.ensures
+    taken.auto.columns c.slot_of-slot.ensures refl c.in-Ok.is c.in-Noted.is
 
 pub returns : goal.returns
-returns c = read_ends c.loop-at.invariant c.loop-at-test.false c.at_end.ensures
+returns c =
+    let end = end_of c.next.ensures c.in_ok-line.was c.in_default.is in
+    read_ends c.loop-line.invariant end.0 (rw end.2 at c.at_end.ensures)

@@ -20,19 +20,19 @@ value_of-requires c =
     let right = found_decimal text 13 true c.in_ok-check_decimal.ensures in
     rw c.bare-rest.ensures (narrow 13 (bare true text) right.0)
 
-pub returns-then-is_unit : goal.returns-then-is_unit
-unfolding decimal_in correlation
-returns-then-is_unit c =
-    let bare-call = c.bare-rest in
-    let right = found_decimal c.args.text.now 13 true c.in_ok-check_decimal.ensures in
-    let unit = rw (c.of.ensures, bare-call.ensures) at (sym c.is_unit.ensures ∙ c.if-is_unit.true) in
-    rw (c.value_of.ensures, bare-call.ensures, right.0, right.1, unit)
-
 pub returns : goal.returns
 unfolding decimal_in correlation
 returns c =
+    let bare-call = c.bare-rest in
     let right = found_decimal c.args.text.now 13 true c.in_ok-check_decimal.ensures in
-    let unit = rw (c.of.ensures, c.bare-rest.ensures) at (sym c.is_unit.ensures ∙ c.if-is_unit.false) in
+    let unit = rw (c.of.ensures, bare-call.ensures) at (sym c.is_unit.ensures ∙ c.if-not-is_unit.false) in
+    rw (c.value_of.ensures, bare-call.ensures, right.0, right.1, unit)
+
+pub returns-then-not-is_unit : goal.returns-then-not-is_unit
+unfolding decimal_in correlation
+returns-then-not-is_unit c =
+    let right = found_decimal c.args.text.now 13 true c.in_ok-check_decimal.ensures in
+    let unit = rw (c.of.ensures, c.bare-rest.ensures) at (sym c.is_unit.ensures ∙ c.if-not-is_unit.true) in
     rw (right.0, right.1, unit)
 
 pub returns-in_err-check_decimal : goal.returns-in_err-check_decimal
