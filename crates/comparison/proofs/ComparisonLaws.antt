@@ -15,7 +15,8 @@ use Rattle.text.specs.Part.{same}
 use Rattle.element.specs.Table.{elements}
 use Rattle.element.specs.Observation.{Observation}
 use Rattle.report.specs.Report.{accepted, read, row_limit}
-use Rattle.report.specs.Index.{Index, Noted, noted_value}
+use Rattle.report.specs.Index.{row_at, Noted, noted_value}
+use Rattle.report.specs.declared.index.Row.{Row}
 use Rattle.report.proofs.IndexLaws.{noted_value_lem}
 use Rattle.comparison.specs.declared.Compared.TheVariants.{Same, Differ}
 use Rattle.comparison.specs.Comparison.{differs_from, first_element, first_difference, compared_of}
@@ -75,26 +76,26 @@ unfolding observations_of
 observations_are t rows e = rw e
 
 -- The observation of a row is the one that the index notes there.
-row_noted : {t : List ℕ} {x : Index} {n : ℕ} → NotesAll t x n → (row : ℕ) → row < n → (e : ℕ) → e < elements
+row_noted : {t : List ℕ} {x : List Row} {n : ℕ} → NotesAll t x n → (row : ℕ) → row < n → (e : ℕ) → e < elements
     → noted_value t x row e ≡ get_or (get_or (observations_of (read t)) row []) e []
 row_noted {t} {x} {n} all row h e k =
     let a = all.accepts in
     let few : row < row_limit = omega (arith, a.few) in
     let z : 0 + row ≡ row = omega arith in
-    let m : Noted t x row (get_or a.rows row []) _ = rw z at (a.noted row few (omega arith)) in
-    noted_value_lem m (omega (arith, all.holds)) e k ∙ rw (observations_are t a.rows a.is)
+    let m : Noted t (row_at x row) (get_or a.observations row []) _ = rw z at (a.noted row few (omega arith)) in
+    noted_value_lem x row m (omega (arith, all.holds)) e k ∙ rw (observations_are t a.observations a.is)
 
 module _ (t u : List ℕ) where
   -- What the loop over the rows keeps: the rows that are left decide.
   abbrev pub Left : ℕ → Type 0
   Left row = compared_of (read t) (read u) ≡ first_difference row (drop row (observations_of (read t))) (drop row (observations_of (read u)))
 
-  module _ {x y : Index} {n m : ℕ} (a : NotesAll t x n) (b : NotesAll u y m) where
+  module _ {x y : List Row} {n m : ℕ} (a : NotesAll t x n) (b : NotesAll u y m) where
     first_long : length (observations_of (read t)) ≡ n
-    first_long = rw (observations_are t a.accepts.rows a.accepts.is) a.accepts.count
+    first_long = rw (observations_are t a.accepts.observations a.accepts.is) a.accepts.count
 
     second_long : length (observations_of (read u)) ≡ m
-    second_long = rw (observations_are u b.accepts.rows b.accepts.is) b.accepts.count
+    second_long = rw (observations_are u b.accepts.observations b.accepts.is) b.accepts.count
 
     pub rows_start : Left 0
     unfolding observations_of

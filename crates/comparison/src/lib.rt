@@ -5,14 +5,14 @@ ghost use Rattle.std.specs.Prelude.{◌≡◌, ◌<◌};
 ghost use Rattle.text.specs.Numbered.{numbered};
 ghost use Rattle.element.specs.Table.{elements};
 ghost use Rattle.report.specs.Report.{read as read_of};
-ghost use Rattle.report.specs.Index.{lent, noted_value};
+ghost use Rattle.report.specs.Index.{noted_value};
 ghost use Rattle.comparison.specs.Comparison.{differs_from, compared_of};
 ghost use Rattle.comparison.specs.Steps.{NotesAll};
 
 use element::ELEMENTS;
-use inspect::{ENTRIES, ROWS};
+use inspect::ROWS;
 use refusal::Refusal;
-use report::index::{index, value_of};
+use report::index::{BLANK, Row, index, value_of};
 use text::part::same;
 
 // What comparing two texts comes to: the same list of so many observations; the first observation in which they differ, counted from 1, and
@@ -30,11 +30,9 @@ pub enum Compared {
 pub fn compare(first: &[u8], second: &[u8]) -> Compared
     ensures { result ≡ compared_of (read_of first.now) (read_of second.now) }
 {
-    let mut sets = [0u64; ROWS];
-    let mut starts = [0u16; ENTRIES];
-    let mut lengths = [0u16; ENTRIES];
-    match index(first, 0, &mut sets, &mut starts, &mut lengths) {
-        Ok(count) => compare_second(first, &sets, &starts, &lengths, count, second),
+    let mut rows = [BLANK; ROWS];
+    match index(first, 0, &mut rows) {
+        Ok(count) => compare_second(first, &rows, count, second),
         Err(refusal) => Compared::FirstRefused(refusal),
     }
 }
@@ -42,37 +40,16 @@ pub fn compare(first: &[u8], second: &[u8]) -> Compared
 // A report of so many observations, by its index, compared with a second text.
 fn compare_second(
     first: &[u8],
-    sets: &[u64],
-    starts: &[u16],
-    lengths: &[u16],
+    rows: &[Row],
     count: usize,
     second: &[u8],
 ) -> Compared
-    requires { NotesAll first.now (lent sets.now starts.now lengths.now) count }
+    requires { NotesAll first.now rows.now count }
     ensures { result ≡ compared_of (read_of first.now) (read_of second.now) }
 {
-    let mut second_sets = [0u64; ROWS];
-    let mut second_starts = [0u16; ENTRIES];
-    let mut second_lengths = [0u16; ENTRIES];
-    match index(
-        second,
-        0,
-        &mut second_sets,
-        &mut second_starts,
-        &mut second_lengths,
-    ) {
-        Ok(second_count) => compare_rows(
-            first,
-            sets,
-            starts,
-            lengths,
-            count,
-            second,
-            &second_sets,
-            &second_starts,
-            &second_lengths,
-            second_count,
-        ),
+    let mut second_rows = [BLANK; ROWS];
+    match index(second, 0, &mut second_rows) {
+        Ok(second_count) => compare_rows(first, rows, count, second, &second_rows, second_count),
         Err(refusal) => Compared::SecondRefused(refusal),
     }
 }
@@ -80,32 +57,18 @@ fn compare_second(
 // Two reports of so many observations each, by their indexes, compared row by row.
 fn compare_rows(
     first: &[u8],
-    sets: &[u64],
-    starts: &[u16],
-    lengths: &[u16],
+    rows: &[Row],
     count: usize,
     second: &[u8],
-    second_sets: &[u64],
-    second_starts: &[u16],
-    second_lengths: &[u16],
+    second_rows: &[Row],
     second_count: usize,
 ) -> Compared
-    requires { NotesAll first.now (lent sets.now starts.now lengths.now) count × NotesAll second.now (lent second_sets.now second_starts.now second_lengths.now) second_count }
+    requires { NotesAll first.now rows.now count × NotesAll second.now second_rows.now second_count }
     ensures { result ≡ compared_of (read_of first.now) (read_of second.now) }
 {
     let both = count.min(second_count);
     for row in 0..both {
-        let element = first_differing(
-            first,
-            sets,
-            starts,
-            lengths,
-            second,
-            second_sets,
-            second_starts,
-            second_lengths,
-            row,
-        );
+        let element = first_differing(first, rows, second, second_rows, row);
         if element.is_some() {
             return Compared::Differ(row + 1, element);
         }
@@ -120,27 +83,16 @@ fn compare_rows(
 // The number of the first element whose values, read off two indexes, differ in a row.
 fn first_differing(
     first: &[u8],
-    sets: &[u64],
-    starts: &[u16],
-    lengths: &[u16],
+    rows: &[Row],
     second: &[u8],
-    second_sets: &[u64],
-    second_starts: &[u16],
-    second_lengths: &[u16],
+    second_rows: &[Row],
     row: usize,
 ) -> Option<usize>
-    ensures { result ≡ numbered (differs_from elements 0 (noted_value first.now (lent sets.now starts.now lengths.now) row) (noted_value second.now (lent second_sets.now second_starts.now second_lengths.now) row)) }
+    ensures { result ≡ numbered (differs_from elements 0 (noted_value first.now rows.now row) (noted_value second.now second_rows.now row)) }
 {
     for element in 0..ELEMENTS {
-        let value = value_of(first, sets, starts, lengths, row, element);
-        let second_value = value_of(
-            second,
-            second_sets,
-            second_starts,
-            second_lengths,
-            row,
-            element,
-        );
+        let value = value_of(first, rows, row, element);
+        let second_value = value_of(second, second_rows, row, element);
         if !same(value, second_value) {
             return Some(element + 1);
         }

@@ -15,7 +15,8 @@ use Rattle.element.specs.Observation.{Observation, is_radar, is_radar_set}
 use Rattle.element.specs.Table.{elements}
 use Rattle.element.proofs.Sets.{set_radar}
 use Rattle.report.specs.Report.{refused, read}
-use Rattle.report.specs.Index.{Index, rows_in, AcceptedIs, noted_value}
+use Rattle.report.specs.Index.{row_at, AcceptedIs, noted_value}
+use Rattle.report.specs.declared.index.Row.{Row}
 use Rattle.report.proofs.IndexLaws.{noted_value_lem}
 use Rattle.night.specs.Record.{fields_in, record_bytes, record_of}
 use Rattle.night.specs.List.{record_size, Done, done, list_with, written_answer}
@@ -56,11 +57,11 @@ place_given count radar n room e =
 -- ---- of a report that an index notes
 
 -- The kind is that of the set in the index's first row.
-module _ {report : List ℕ} (n : ℕ) {index : Index} {count : ℕ} (x : AcceptedIs report (n - 1) 1 index count) (list : List ℕ) (radar : Bool)
-    (kind : radar ≡ is_radar_set (get_or index.sets 0 0)) where
+module _ {report : List ℕ} (n : ℕ) {index : List Row} {count : ℕ} (x : AcceptedIs report (n - 1) 1 index count) (list : List ℕ) (radar : Bool)
+    (kind : radar ≡ is_radar_set (row_at index 0).present) where
   -- The observation of that number, where there is one.
   abbrev observed : Observation
-  observed = get_or x.rows (n - 1) []
+  observed = get_or x.observations (n - 1) []
 
   -- Where there is one, that is its kind.
   kind_is : 1 ≤ n → n ≤ count → radar ≡ is_radar observed
@@ -82,12 +83,12 @@ module _ {report : List ℕ} (n : ℕ) {index : Index} {count : ℕ} (x : Accept
   pub write_none : {p : Paper} → refused_by p ≡ place_answer count radar n (length list) → Writes report n list (refused_by p) list
   write_none e = (e ∙ answer_is, rw x.is (rw (x.count, place_refused count (is_radar observed) n (length list) (e ∙ place_is)) refl))
 
-  module _ (held : 0 < rows_in index.sets index.starts index.lengths) where
+  module _ (held : 0 < length index) where
     -- The first row notes the observation's fields.
     noted : 1 ≤ n → n ≤ count → (e : ℕ) → e < elements → noted_value report index 0 e ≡ get_or observed e []
     noted a b e h =
         let z : n - 1 + 0 ≡ n - 1 = omega arith in
-        rw z at (noted_value_lem (x.noted 0 (omega arith) (omega arith)) held e h)
+        rw z at (noted_value_lem index 0 (x.noted 0 (omega arith) (omega arith)) held e h)
 
     fields_are : 1 ≤ n → n ≤ count → record_bytes (noted_fields report index 0 n) ≡ record_of n observed
     unfolding record_of fields_in

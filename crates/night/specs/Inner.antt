@@ -6,7 +6,8 @@ use Rattle.refusal.specs.Paper.{paper, request, Answer, refused_by, given}
 use Rattle.refusal.specs.declared.Kind.TheVariants.{NoObservation, NotOptical, ListTooShort}
 use Rattle.element.specs.Form.{value_of}
 use Rattle.report.specs.Report.{read, row_limit}
-use Rattle.report.specs.Index.{Index, noted_value}
+use Rattle.report.specs.Index.{noted_value}
+use Rattle.report.specs.declared.index.Row.{Row}
 use Rattle.night.specs.Record.{Fields, fields_from, spelt_at, is_station, is_day, is_ascension, is_declination}
 use Rattle.night.specs.List.{record_size, Done, done, written_answer, list_after}
 use Rattle.night.specs.declared.answer.Record.{Record}
@@ -16,13 +17,13 @@ abbrev pub Writes : List ℕ → ℕ → List ℕ → Answer Done → List ℕ �
 Writes report n list answer after = (answer ≡ written_answer (read report) n list) × (after ≡ list_after (read report) n list)
 
 -- The fields of the observation that a row of an index notes.
-abbrev pub noted_fields : List ℕ → Index → ℕ → ℕ → Fields
-noted_fields report index row number =
+abbrev pub noted_fields : List ℕ → List Row → ℕ → ℕ → Fields
+noted_fields report rows row number =
     fields_from number
-    (noted_value report index row 7)
-    (value_of 14 (noted_value report index row 14))
-    (value_of 16 (noted_value report index row 16))
-    (value_of 17 (noted_value report index row 17))
+    (noted_value report rows row 7)
+    (value_of 14 (noted_value report rows row 14))
+    (value_of 16 (noted_value report rows row 16))
+    (value_of 17 (noted_value report rows row 17))
 
 -- What writing answers, of a report of so many observations to a list of so many bytes, where the observation is radar or not.
 abbrev pub place_answer : ℕ → Bool → ℕ → ℕ → Answer Done

@@ -15,28 +15,21 @@ ghost use Rattle.report.specs.Report.{read as read_of};
 ghost use Rattle.night.specs.List.{written_paper, written_answer, list_after, listed_paper, list_answer, recorded_paper, record_answer};
 
 use answer::Record;
-use element::ELEMENTS;
 use list::{first_bad, record_at};
+use noted::write_noted;
 use record::record_of;
 use refusal::{Kind, Refusal};
+use report::index::{BLANK, index};
 use std::ops::RangeBounds;
 
-// Writes the record of an observation of a report at its place in the list, or says why nothing is written. It makes the lists for an index
+// Writes the record of an observation of a report at its place in the list, or says why nothing is written. It makes an index
 // of that one observation, with a row more for the reader's own use.
 pub fn write(report: &[u8], observation: usize, list: &mut [u8]) -> Result<(), Refusal>
     ensures { (written_paper result ≡ written_answer (read_of report.now) observation list.old) × (list.new ≡ list_after (read_of report.now) observation list.old) }
 {
-    let mut sets = [0u64; 2];
-    let mut starts = [0u16; 2 * ELEMENTS];
-    let mut lengths = [0u16; 2 * ELEMENTS];
-    noted::write_with(
-        report,
-        observation,
-        &mut sets,
-        &mut starts,
-        &mut lengths,
-        list,
-    )
+    let mut rows = [BLANK; 2];
+    let count = index(report, observation.saturating_sub(1), &mut rows)?;
+    write_noted(report, &rows, count, observation, list)
 }
 
 // How many records a list has, or its first bad one.

@@ -1,8 +1,8 @@
 // Why a packed report is as long as it is.
 use crate::costing;
 use crate::rows::Rows;
-use inspect::{ENTRIES, ROWS};
-use report::index::{fill_sizes, index};
+use inspect::ROWS;
+use report::index::{BLANK, fill_sizes, index};
 use std::io;
 
 // Prints the answer to the third question, of a report and its packed report.
@@ -18,14 +18,16 @@ pub(crate) fn print_length(rt: &impl Print, report: &[u8], packed: &[u8]) -> io:
 
 // Prints the account of a packed report, and what else its observations could have cost; nothing for a refused report.
 fn print_account(rt: &impl Print, report: &[u8], packed: &[u8]) -> io::Result<()> {
+    let mut noted = [BLANK; ROWS];
     let mut sets = [0u64; ROWS];
-    let mut starts = [0u16; ENTRIES];
-    let mut lengths = [0u16; ENTRIES];
     let mut sizes = [0u32; ROWS];
-    match index(report, 0, &mut sets, &mut starts, &mut lengths) {
+    match index(report, 0, &mut noted) {
         Ok(0) => println!(rt; "   It has no observation, so it has no block."),
         Ok(count) => {
-            fill_sizes(&sets, &lengths, &mut sizes);
+            for (set, row) in sets.iter_mut().zip(&noted) {
+                *set = row.present;
+            }
+            fill_sizes(&noted, &mut sizes);
             let all = Rows {
                 sets: &sets,
                 sizes: &sizes,
