@@ -1,8 +1,7 @@
 use mathlib.Core.Path.{ap}
 use Rattle.std.proofs.Common.{Ok, Err}
 use Rattle.std.proofs.lemmas.Result.{err_from_is_err_and}
-use native.Mathlib.Omega.{arith}
-use Rattle.report.proofs.AnswerLaws.{element_from, accepted_of, refused_of, located_refused, located_none, located_no_element, located_noted, element_low}
+use Rattle.report.proofs.AnswerLaws.{accepted_of, refused_of, located_refused, located_none, located_no_element, located_noted}
 use Rattle.report.proofs.place.located_in.Goals as goal
 
 pub returns-in_err-count : goal.returns-in_err-count
@@ -15,21 +14,6 @@ returns-then-observation-count c = located_none _ _ (accepted_of c.read.ensures 
 
 pub returns-then-element : goal.returns-then-element
 returns-then-element c = located_no_element _ _ (accepted_of c.read.ensures c.in_ok-count.was) c.if-observation-count.false c.if-element.true (ap Err c.of_request-then-element.ensures)
-
-pub overflow_sub-element : goal.overflow_sub-element
-overflow_sub-element c = omega (arith, element_from c.args.element c.if-element.false)
-
-pub noted-requires : goal.noted-requires
-noted-requires c =
-    let args = c.args in
-    let if2 = c.if-element in
-    let pre = c.requires in
-    let read = c.read in (
-      element_low args.element if2.false,
-      omega (arith, pre.sets_room, read.auto.sets),
-      omega (arith, pre.starts_room, read.auto.starts),
-      omega (arith, pre.lengths_room, read.auto.lengths),
-    )
 
 pub returns : goal.returns
 returns c =
