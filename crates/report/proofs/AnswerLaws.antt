@@ -24,29 +24,9 @@ use Rattle.element.specs.Observation.{is_present, bit}
 use Rattle.element.proofs.Sets.{has_set}
 use Rattle.report.specs.Report.{Outcome, accepted, refused, read}
 use Rattle.report.specs.Starts.{starts_in}
-use Rattle.report.specs.Answers.{checked_paper, checked_answer, is_observation, is_element, value_at, start_at, shown_of, showing_paper, showing_answer, exact, valued_answer}
-use Rattle.report.specs.Index.{Index, room_in, Noted, AcceptedIs, IndexCase, IndexIs}
-use Rattle.report.specs.Inner.{Room, slot_shown, LocatedIs}
-
--- The answer to a check is what the report reads as.
-pub checked_is : {t : List ℕ} {first room : ℕ} {x : Index} {r : Result ℕ Refusal} → IndexIs t first room x r → checked_paper r ≡ checked_answer (read t)
-checked_is {t} {first} {room} {x} {r} i = go r i.case
-  where
-    go : (r : Result ℕ Refusal) → IndexCase t first room x r → checked_paper r ≡ checked_answer (read t)
-    go (Ok k) a = rw (a.is, a.count)
-    go (Err y) e = rw e
-
--- Where there is no room for a row, nothing of the lists matters.
-pub unnoted : {t : List ℕ} {first : ℕ} {x : Index} {r : Result ℕ Refusal} → IndexIs t first 0 x r → {first' room' : ℕ} {y : Index} → room' ≡ 0 → IndexIs t first' room' y r
-unnoted {t} {first} {x} {r} i {first'} {room'} {y} e = record { case = go r i.case }
-  where
-    go : (r : Result ℕ Refusal) → IndexCase t first 0 x r → IndexCase t first' room' y r
-    go (Ok k) a = record { rows = a.rows; is = a.is; count = a.count; few = a.few; noted = λ j h. absurd (omega arith) }
-    go (Err z) q = q
-
--- The lists that are lent hold rows from 0 to one less than their number.
-pub index_room : {x : Index} {rows : ℕ} → rows ≡ min (length x.sets) (min (length x.starts / elements) (length x.lengths / elements)) → (rows ≡ 0 → ⊥) → Room x (rows - 1)
-index_room e n = record { sets_room = omega (arith, e, n); starts_room = omega (arith, e, n); lengths_room = omega (arith, e, n) }
+use Rattle.report.specs.Answers.{is_observation, is_element, value_at, start_at, shown_of, showing_paper, showing_answer, exact, valued_answer}
+use Rattle.report.specs.Index.{Index, room_in, Noted, AcceptedIs, IndexIs}
+use Rattle.report.specs.Inner.{slot_shown, LocatedIs}
 
 pub indexed : (x : Index) {t : List ℕ} {first rows : ℕ} {y : Index} {r : Result ℕ Refusal}
     → rows ≡ min (length x.sets) (min (length x.starts / elements) (length x.lengths / elements))
@@ -86,9 +66,6 @@ inside n k h = let p = neither (ltb n 1) (ltb k n) h in (ltb-false n 1 p.0, ltb-
 
 inside_is : (n k : ℕ) → (1 ≤ n) × (n ≤ k) → (leb 1 n && leb n k) ≡ true
 inside_is n k p = rw (le-leb 1 n p.0, le-leb n k p.1)
-
-pub element_from : (e : ℕ) → (ltb e 1 || ltb elements e) ≡ false → 1 ≤ e
-element_from e h = (inside e elements h).0
 
 pub element_low : (e : ℕ) → (ltb e 1 || ltb elements e) ≡ false → e - 1 < elements
 element_low e h = omega (arith, inside e elements h)
