@@ -4,13 +4,10 @@ use Rattle.pack.proofs.plan.plan.Goals as goal
 
 pub cut_rows-requires : goal.cut_rows-requires
 cut_rows-requires c =
-    let pre = c.requires in
     let index = c.index in
-    rows_ask pre index.ensures index.auto.sets index.auto.starts index.auto.lengths c.in_ok-rows.was
+    rows_ask c.requires index.ensures index.auto.sets index.auto.starts index.auto.lengths c.in_ok-rows.was
 
 pub returns : goal.returns
 returns c =
-    let pre = c.requires in
     let index = c.index in
-    let cut-rows = c.cut_rows in
-    plan_cut pre index.ensures index.auto.sets index.auto.starts index.auto.lengths c.in_ok-rows.was cut-rows.ensures
+    plan_cut c.requires index.ensures index.auto.sets index.auto.starts index.auto.lengths c.in_ok-rows.was c.cut_rows.ensures
