@@ -1,8 +1,9 @@
--- Laws of the names of elements: where each lies among all of them, that its index is its place, and what bytes it has.
+-- The names of elements as the code holds them, one after the other, and laws of them: where each lies among all of them, that its index is its
+-- place, and what bytes it has.
 use Prim.Native.Nat.{ℕ, suc, ◌+◌, ◌-◌, ◌≤◌, ◌<◌}
 use mathlib.Core.Path.{◌≡◌, refl, sym, ap, ◌∙◌}
 use mathlib.Core.Bool.{Bool, true, false, not, ◌&&◌}
-use mathlib.Core.List.{List, [], ◌∷◌}
+use mathlib.Core.List.{List, [], ◌∷◌, ◌++◌}
 use native.Mathlib.Numerals.{add-one}
 use lib.Dec.{T, eqb, leb, ltb, eqb→eq, leb→le}
 use lib.ListN.{length, get_or, take, drop, length-drop, get_or-eq_default}
@@ -15,8 +16,25 @@ use Rattle.text.specs.Part.{same}
 use Rattle.text.proofs.Bools.{T_true, bools}
 use Rattle.text.proofs.Parts.{same_is}
 use Rattle.text.proofs.Table.{passes, below}
-use Rattle.element.specs.Names.{all_names, name_starts}
 use Rattle.element.specs.Table.{elements, table, names, name_of, index_in, index_of, found_index, element_number}
+
+-- Texts, one after the other.
+abbrev pub end_to_end : List (List ℕ) → List ℕ
+end_to_end [] = []
+end_to_end (text ∷ texts) = text ++ end_to_end texts
+
+-- The names of all elements, one after the other.
+abbrev pub all_names : List ℕ
+all_names = end_to_end names
+
+-- Where each of these texts starts, the first at a place and each next one where the one before it ends, and where the last one ends.
+abbrev pub text_starts : ℕ → List (List ℕ) → List ℕ
+text_starts place [] = place ∷ []
+text_starts place (text ∷ texts) = place ∷ text_starts (place + length text) texts
+
+-- Where each name starts among all of them, and where the last one ends.
+abbrev pub name_starts : List ℕ
+name_starts = text_starts 0 names
 
 -- The table has as many rows as there are elements.
 pub table_length : length table ≡ elements
@@ -41,15 +59,6 @@ order_test index = leb (get_or name_starts index 0) (get_or name_starts (index +
 -- The next name, or the end, lies within all names.
 inside_test : ℕ → Bool
 inside_test index = leb (get_or name_starts (index + 1) 0) (length all_names)
-
--- The start is a byte.
-start_test : ℕ → Bool
-start_test place = ltb (get_or name_starts place 0) 256
-
--- Every start is a byte.
-pub start_small : (place : ℕ) → place < elements + 1 → get_or name_starts place 0 < 256
-unfolding start_test
-start_small place h = ltb-true _ _ (T_true _ (below start_test (elements + 1) tt place h))
 
 -- The part is the name, it is as long as the name, and the starts are in order.
 module _ (index : ℕ) (h : index < elements) where

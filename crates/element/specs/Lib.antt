@@ -1,5 +1,4 @@
 pub mod Form
-pub mod Names
 pub mod Observation
 pub mod Same
 pub mod Set

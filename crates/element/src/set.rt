@@ -1,12 +1,10 @@
 // Sets of elements: bit e stands for index e.
 ghost use Rattle.std.specs.Prelude.{◌≡◌, ◌≤◌, ◌<◌};
 ghost use Rattle.std.specs.Int.Count.{ones};
-ghost use Rattle.element.specs.Names.{name_starts};
 ghost use Rattle.element.specs.Set.{has, joined, length_if, bytes_in, name_bytes};
 
 use crate::ELEMENTS;
-use crate::name::length_in;
-use crate::table::STARTS;
+use crate::name::length_at;
 
 // How many lengths the first part of a sum has: half of them.
 const PART: usize = 22;
@@ -33,17 +31,9 @@ pub fn join(sets: &[u64]) -> u64
     sets.iter().fold(0, |all, set| all | *set)
 }
 
-// The bytes of the names of the set's elements.
+// The bytes of the names of the set's elements. It goes from one element of the set to the next by the set's bits, and not over all elements:
+// such a loop takes the search for cuts a third more (docs/PROVING.md, "Fast code that is proved").
 pub fn name_bytes(set: u64) -> u64
-    ensures { result ≡ name_bytes set }
-{
-    name_bytes_in(set, &STARTS)
-}
-
-// The same; `starts` says where each name starts among all names. It goes from one element of the set to the next by the set's bits, and
-// not over all elements: such a loop takes the search for cuts a third more (docs/PROVING.md, "Fast code that is proved").
-fn name_bytes_in(set: u64, starts: &[u8]) -> u64
-    requires { starts.now ≡ name_starts }
     ensures { result ≡ name_bytes set }
 {
     let mut left = set;
@@ -55,7 +45,7 @@ fn name_bytes_in(set: u64, starts: &[u8]) -> u64
         if ELEMENTS <= next {
             return sum;
         }
-        sum += u64::from(length_in(starts, next));
+        sum += u64::from(length_at(next));
         left = (left >> skip) / 2;
         e = next + 1;
     }

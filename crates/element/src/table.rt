@@ -5,15 +5,15 @@ ghost use Rattle.element.specs.Table.{form_of};
 use crate::ELEMENTS;
 use crate::form::Form;
 
-// The names of all elements, one after the other.
-pub(crate) const NAMES: [u8; 237] =
+// The names of all elements, one after the other. They and their starts are static: a constant that is indexed is laid out at each call.
+pub(crate) static NAMES: [u8; 237] =
     *b"permIDprovIDartSattrkSubobsIDobsSubIDmodestnsysctrpos1pos2pos3progobsTimermsTimeradecrmsRArmsDecrmsCorrastCatmagrmsMagbandphotCatphotApnotesremarkstrxrcvdelayrmsDelaydopplerrmsDopplerfrqcomposCov11posCov12posCov13posCov22posCov23posCov33";
 
 // The bytes of the longest name.
 pub const LONGEST: usize = 10;
 
 // Where each name starts among all of them, and where the last one ends.
-pub(crate) const STARTS: [u8; ELEMENTS + 1] = [
+pub(crate) static STARTS: [u8; ELEMENTS + 1] = [
     0, 6, 12, 18, 24, 29, 37, 41, 44, 47, 50, 54, 58, 62, 66, 73, 80, 82, 85, 90, 96, 103, 109,
     112, 118, 122, 129, 135, 140, 147, 150, 153, 158, 166, 173, 183, 186, 189, 197, 205, 213, 221,
     229, 237,

@@ -86,9 +86,6 @@ module _ {l columns₀ columns : List ℕ} {parts a k start size till : ℕ} (s 
   lies : (a ≤ length l) × (s.left ≡ fields (drop a l))
   lies = s.lies (omega (arith, s.count))
 
-  pub name_inside : start + size ≤ till × till ≤ length l
-  name_inside = (f.within, f.fits lies.0)
-
   parted : Split l a till (fields (drop a l))
   parted = split f lies.0
 

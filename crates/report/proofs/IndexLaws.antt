@@ -1,19 +1,17 @@
 -- Laws of a value read off an index.
-use Prim.Native.Nat.{ℕ, ◌+◌, ◌-◌, ◌*◌, ◌≤◌, ◌<◌}
+use Prim.Native.Nat.{ℕ, ◌+◌, ◌*◌, ◌≤◌, ◌<◌}
 use mathlib.Core.Path.{◌≡◌, refl, sym, ap, ◌∙◌}
 use mathlib.Core.Bool.{true, false}
 use mathlib.Core.List.{List, [], ◌∷◌}
 use native.Mathlib.Omega.{arith}
-use lib.Dec.{eqb}
-use lib.ListN.{length, get_or, set, take, drop, length-set}
-use lib.Seq.{get_or-set_same, get_or-set_other}
-use borrow.Author.Tests.{lt-ltb, le-ltb, eqb-true, eqb-false}
+use lib.ListN.{length, get_or, take, drop}
+use borrow.Author.Tests.{lt-ltb, le-ltb}
 use Rattle.text.proofs.Bools.{bools}
 use Rattle.element.specs.Table.{elements}
 use Rattle.element.specs.Observation.{Observation, is_present}
-use Rattle.element.specs.Set.{has, bytes_in}
+use Rattle.element.specs.Set.{has}
 use Rattle.element.proofs.Sets.{has_present}
-use Rattle.report.specs.Index.{row_at, Noted, is_noted, noted_value, noted_bytes, Sized}
+use Rattle.report.specs.Index.{row_at, Noted, is_noted, noted_value}
 use Rattle.report.specs.declared.index.Row.{Row}
 
 module _ (t : List ℕ) (rows : List Row) (row element : ℕ) where
@@ -54,22 +52,3 @@ noted_value_lem {t} rows row {o} n h element k =
   where
     is : has (row_at rows row).present element ≡ is_present (get_or o element [])
     is = ap (λ (set : ℕ). has set element) n.set_is ∙ has_present o element
-
--- No size is filled in.
-pub sized_none : (rows : List Row) (sizes : List ℕ) → Sized rows sizes sizes 0
-sized_none rows sizes = record { long = refl; at = λ row h. absurd (omega arith); kept = λ row h. refl }
-
--- One size more.
-pub sized_next : {rows : List Row} {before sizes : List ℕ} {row size : ℕ} → Sized rows before sizes row → row < length sizes
-    → size ≡ noted_bytes (row_at rows row) → Sized rows before (set sizes row size) (row + 1)
-sized_next {rows} {before} {sizes} {row} {size} s h e = record {
-  long = simp length-set s.long;
-  at = at;
-  kept = λ i k. let n : i ≡ row → ⊥ = λ q. omega arith in get_or-set_other sizes row i size 0 n ∙ s.kept i (omega arith);
-}
-  where
-    at : (i : ℕ) → i < row + 1 → get_or (set sizes row size) i 0 ≡ noted_bytes (row_at rows i)
-    at i k =
-        bools (eqb i row)
-        (λ a. let q : i ≡ row = eqb-true i row a in rw (q, get_or-set_same sizes row size 0 h, e))
-        (λ a. get_or-set_other sizes row i size 0 (eqb-false i row a) ∙ s.at i (omega (arith, eqb-false i row a)))

@@ -95,10 +95,6 @@ row_same rows slot i {y} h e =
 
 -- ---- the next line
 
--- The end of the text; bytes with no LF after them; a line.
-pub next_none : {t : List ℕ} {at number : ℕ} → length t ≤ at → NextIn t at number at number (Ok None)
-next_none h = record { case = (h, refl, refl) }
-
 module _ (t : List ℕ) {at size : ℕ} {right : Bool} {parts : ℕ} (h : at < length t) (c : ScannedIs (take (length t - at) (drop at t)) size right parts) where
   next_size : size ≡ up_to 10 (drop at t)
   next_size = c.size_is ∙ ap (λ (l : List ℕ). up_to 10 l) (rest_of t at (omega arith))

@@ -204,16 +204,6 @@ module _ {t columns : List ℕ} {noted : Row} {from till a k : ℕ} {m : Marks} 
     pub fields_inside : start + size ≤ till - from
     fields_inside = omega (arith, f.within, f.fits lies.0, length-take (till - from) (drop from t))
 
-    pub fields_fit : end ≤ till
-    fields_fit = omega (arith, f.fits lies.0, length-take (till - from) (drop from t))
-
-    pub entry_inside : (get_or columns k 0 < elements) × (from + start < 65536) × (size < 65536)
-    entry_inside = (
-      asks.known k h,
-      omega (arith, fields_inside, asks.lies.order, asks.lies.short),
-      omega (arith, fields_inside, asks.lies.order, asks.lies.short),
-    )
-
     -- The value is right, its marks are put on and it is noted.
     module _ (fine : Ok tt ≡ fault_of (get_or columns k 0) (take (start + size - start) (drop start (between t from till))))
         {m' : Marks} (marked : m' ≡ mark_on m (get_or columns k 0) (take (start + size - start) (drop start (between t from till))))
@@ -335,13 +325,6 @@ module _ {t columns : List ℕ} {from till parts k : ℕ} (asks : RowAsks t colu
   pub row_count : (parts ≡ length columns → ⊥) → data_line columns k (between t from till) ≡ bad FieldCountDiffers 0
   unfolding data_line
   row_count n = rw (lt-ltb k row_limit h, ne_eqb (length (fields (between t from till))) (length columns) (λ e. n (asks.lies.parts_are ∙ e)))
-
-  pub fields_ask : parts ≡ length columns → FieldsAsk t columns from till
-  fields_ask c = record {
-    lies = rw c at asks.lies;
-    few = asks.few;
-    known = asks.known;
-  }
 
   module _ (c : parts ≡ length columns) where
     count_is : length (fields (between t from till)) ≡ length columns

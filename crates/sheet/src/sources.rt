@@ -45,12 +45,14 @@ impl<'a> Iterator for Sources<'a> {
     }
 }
 
-// Prints what comparing the sources with a report came to, in a fixed line: `same N`, or `differ observation N element E`.
+// Prints what comparing the sources with a report came to, in a fixed line: `same N`, or `differ observation N element E`, where E is 0 if
+// one of the two ends before that observation.
 pub fn print_first(rt: &impl Print, found: Compared) -> io::Result<()> {
     match found {
         Compared::Same(observations) => println!(rt; "same {observations}"),
         Compared::Differ(observation, element) => println!(rt;
-            "differ observation {observation} element {element}"
+            "differ observation {observation} element {}",
+            element.unwrap_or(0)
         ),
         _ => println!(rt; "differ observation 0 element 0"),
     }
@@ -138,18 +140,18 @@ fn whose_is(sources: Sources, observation: usize) -> Option<Whose> {
     None
 }
 
-// Prints the values in which an observation differs; none where the sources or the report end before it.
+// Prints the values of the element in which an observation differs; none where the sources or the report end before it.
 fn print_values(
     rt: &impl Print,
     name: &[u8],
     report: &[u8],
     texts: &[u8],
     observation: usize,
-    element: usize,
+    element: Option<usize>,
 ) -> io::Result<()> {
-    if element == 0 {
+    let Some(element) = element else {
         return println!(rt; "   The sources and the report have not as many observations.");
-    }
+    };
     let there = report::shown(texts, observation, element);
     let here = report::shown(report, observation, element);
     print_value(rt, element, b"the sources", there)?;

@@ -6,13 +6,16 @@ use mathlib.Core.List.{List, [], ◌∷◌}
 use native.Mathlib.Omega.{arith}
 use lib.Dec.{eqb, leb, ltb, lit<}
 use lib.IntN.{ℤ, pos, ◌-ℤ◌}
+use denote.Ref.{Bor}
+use lib.Seq.{drop-length, take_all}
+use native.Mathlib.Numerals.{add-one}
 use lib.ListN.{length, get_or, take, drop, length-take, length-drop}
 use mir.Syntax.{w64}
 use mir.Val.{SFits}
-use borrow.Author.Tests.{eqb-true, leb-true, ltb-true, ltb-false, lt-ltb, le-ltb}
+use borrow.Author.Tests.{eqb-true, eq-eqb, ne_eqb, leb-true, ltb-true, ltb-false, lt-ltb, le-ltb}
 use Rattle.std.specs.List.{position, position_or_len}
-use Rattle.std.specs.Option.{unwrap_or}
-use Rattle.std.specs.Prelude.{Ok, Some, None, cond}
+use Rattle.std.specs.Option.{option_copied, unwrap_or}
+use Rattle.std.specs.Prelude.{Ok, Option, Some, None, cond}
 use Rattle.std.proofs.lemmas.Bool.Decides.{nat_tests}
 use Rattle.text.specs.Class.{is_digit}
 use Rattle.text.specs.Digits.{after, number}
@@ -23,7 +26,7 @@ use Rattle.value.proofs.Signs.{difference_fits}
 use Rattle.value.specs.Decimal.{is_decimal, places}
 use Rattle.value.specs.Numeral.{is_digits}
 use Rattle.value.specs.Sign.{is_minus, is_signed, bare, with_sign}
-use Rattle.value.specs.Covariance.{is_mark, before_mark, mantissa, exponent, is_exponent, is_scaled, size, power, scaled_as, covariance}
+use Rattle.value.specs.Covariance.{is_mark, before_mark, mantissa, exponent, marked_exponent, is_exponent, is_scaled, size, power, scaled_as, covariance}
 use Rattle.value.specs.declared.Value.TheVariants.{Scaled}
 
 -- A byte before them makes a place one more, and the length too.
@@ -38,6 +41,52 @@ mark_is (b ∷ s) =
     bools (is_mark b)
     (λ q. rw (q, lt-ltb 0 (suc (length s)) (omega arith)))
     (λ q. rw q (one_more (position_or_len is_mark s) (length s) (before_mark s) (mark_is s)))
+
+-- One byte more dropped.
+drop_more : (i : ℕ) (s : List ℕ) → drop (suc i) s ≡ drop 1 (drop i s)
+drop_more zero s = refl
+drop_more (suc i) [] = refl
+drop_more (suc i) (b ∷ s) = drop_more i s
+
+-- Where one is found, the text stands in two halves; where none is, it is all before it.
+module _ (s : List ℕ) where
+  pub mark_some : (i : ℕ) → Some i ≡ position is_mark s → (i < length s) × (before_mark s ≡ i)
+  mark_some i e =
+      let first = position_or_len is_mark s in
+      bools (ltb first (length s))
+      (λ q.
+      let same : ◌≡◌ {A = Option ℕ} (Some i) (Some first) = rw q at e in
+      let here : i ≡ first = cc in
+      let is : first ≡ before_mark s = rw q at (mark_is s) in
+      (omega (arith, ltb-true first (length s) q, here), sym is ∙ sym here))
+      (λ q. let none : ◌≡◌ {A = Option ℕ} (Some i) None = rw q at e in cc)
+
+  pub mark_none : None ≡ position is_mark s → before_mark s ≡ length s
+  mark_none e =
+      let first = position_or_len is_mark s in
+      bools (ltb first (length s))
+      (λ q. let some : ◌≡◌ {A = Option ℕ} None (Some first) = rw q at e in cc)
+      (λ q. sym (rw q at (mark_is s)))
+
+  pub after_some : (i : ℕ) → Some i ≡ position is_mark s → Some (take (length s - (i + 1)) (drop (i + 1) s)) ≡ marked_exponent s
+  after_some i e =
+      let at = mark_some i e in
+      rw (at.1, ne_eqb i (length s) (λ z. omega (arith, at.0)), take_all (length s - (i + 1)) (drop (i + 1) s) (omega (arith, length-drop (i + 1) s)), add-one, drop_more i s)
+
+  pub after_none : None ≡ position is_mark s → None ≡ marked_exponent s
+  after_none e = rw (mark_none e, eq-eqb (length s) (length s) refl)
+
+-- The exponent, and nothing where there is no `e` or `E`.
+pub exponent_is : (s : List ℕ) (half : Option (Bor (List ℕ))) (none : Bor (List ℕ)) → none.now ≡ [] → option_copied half ≡ marked_exponent s
+    → (unwrap_or half none).now ≡ exponent s
+exponent_is s None none e f =
+    bools (eqb (before_mark s) (length s))
+    (λ q. rw (eqb-true (before_mark s) (length s) q, drop-length s) e)
+    (λ q. let some : ◌≡◌ {A = Option (List ℕ)} None (Some (exponent s)) = rw q at f in cc)
+exponent_is s (Some rest) none e f =
+    bools (eqb (before_mark s) (length s))
+    (λ q. let other : ◌≡◌ {A = Option (List ℕ)} (Some rest.now) None = rw q at f in cc)
+    (λ q. let same : ◌≡◌ {A = Option (List ℕ)} (Some rest.now) (Some (exponent s)) = rw q at f in cc)
 
 -- What is known after each byte of a text: the parts so far are those of a whole number of no more digits than bytes passed, and what is left, put after it, makes the number of the text.
 pub record InParts (s : List ℕ) (high low i : ℕ) : Type 0 where

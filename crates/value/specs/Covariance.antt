@@ -1,6 +1,6 @@
 -- Covariances: numbers in decimal or exponential form, whose value is a whole number in two parts with a signed power of ten.
 use Prim.Native.Char.{code}
-use Rattle.std.specs.Prelude.{ℕ, suc, ◌/◌, ◌%◌, Bool, true, cond, ◌&&◌, ◌||◌, List, [], ◌∷◌, eqb, leb, ltb, ℤ, pos, ◌-ℤ◌, length, take, drop, Result, Ok, Err}
+use Rattle.std.specs.Prelude.{ℕ, suc, ◌/◌, ◌%◌, Bool, true, cond, ◌&&◌, ◌||◌, List, [], ◌∷◌, eqb, leb, ltb, ℤ, pos, ◌-ℤ◌, length, take, drop, Option, Some, None, Result, Ok, Err}
 use Rattle.text.specs.Digits.{number}
 use Rattle.refusal.specs.declared.Kind.{Kind}
 use Rattle.refusal.specs.declared.Kind.TheVariants.{TooWide, WrongForm}
@@ -26,6 +26,10 @@ mantissa text = take (before_mark text) text
 -- Its exponent: what stands after the first `e` or `E`, nothing where there is none.
 abbrev pub exponent : List ℕ → List ℕ
 exponent text = drop 1 (drop (before_mark text) text)
+
+-- The exponent, where there is an `e` or `E` before it.
+abbrev pub marked_exponent : List ℕ → Option (List ℕ)
+marked_exponent text = cond (eqb (before_mark text) (length text)) None (Some (exponent text))
 
 -- An optional sign and one to three digits.
 unfoldable pub is_exponent : List ℕ → Bool

@@ -1,8 +1,10 @@
 // Covariances: numbers in decimal or exponential form, with a signed power of ten.
 ghost use Rattle.std.specs.Prelude.{◌≡◌, true, ◌≤◌, length};
+ghost use Rattle.std.specs.List.{position};
+ghost use Rattle.std.specs.Option.{option_copied};
 ghost use Rattle.text.specs.Digits.{number};
 ghost use Rattle.value.specs.Check.{less_value};
-ghost use Rattle.value.specs.Covariance.{before_mark, is_exponent, is_scaled, power, scaled_as, covariance};
+ghost use Rattle.value.specs.Covariance.{is_mark, mantissa, marked_exponent, is_exponent, is_scaled, power, scaled_as, covariance};
 
 use crate::Value;
 use crate::numeral::{Unsigned, is_digits};
@@ -11,7 +13,6 @@ use refusal::Kind;
 use text::class;
 use text::class::Class;
 use text::digits::number;
-use text::part::{front, tail};
 
 // The most bytes of a covariance, less its sign.
 const WIDTH: usize = 20;
@@ -25,9 +26,8 @@ pub fn covariance(text: &[u8]) -> Result<Value, Kind>
 {
     check_covariance(text)?;
     let rest = bare(text, true);
-    let before = before_mark(rest);
-    let scale = power(rest, before);
-    Ok(in_parts(is_minus(text), front(rest, before), scale))
+    let (mantissa, _) = halves(rest);
+    Ok(in_parts(is_minus(text), mantissa, power(rest)))
 }
 
 // The same covariance checked without working out its value.
@@ -39,20 +39,19 @@ pub fn check_covariance(text: &[u8]) -> Result<(), Kind>
     if WIDTH < rest.len() {
         return Err(Kind::TooWide);
     }
-    if !is_scaled(rest, before_mark(rest)) {
+    if !is_scaled(rest) {
         return Err(Kind::WrongForm);
     }
     Ok(())
 }
 
-// Whether a text without sign whose first `e` or `E` stands after so many bytes is in decimal or exponential form.
+// Whether a text without sign is in decimal or exponential form.
 #[tactic(auto, unfolding(crate::specs::Covariance::is_scaled))]
-fn is_scaled(text: &[u8], before: usize) -> bool
-    requires { before ≡ before_mark text.now }
+fn is_scaled(text: &[u8]) -> bool
     ensures { result ≡ is_scaled text.now }
 {
-    Unsigned::of(front(text, before)).is_decimal()
-        && (before == text.len() || is_exponent(tail(tail(text, before), 1)))
+    let (mantissa, exponent) = halves(text);
+    Unsigned::of(mantissa).is_decimal() && exponent.is_none_or(is_exponent)
 }
 
 // Whether a text is an optional sign and one to three digits.
@@ -64,24 +63,33 @@ fn is_exponent(text: &[u8]) -> bool
     is_digits(rest) && rest.len() <= 3
 }
 
-// How many bytes of a text stand before the first `e` or `E`: all where there is none.
-fn before_mark(text: &[u8]) -> usize
-    ensures { result ≡ before_mark text.now }
+// What stands before the first `e` or `E` of a text, and what stands after it, where there is one.
+fn halves(text: &[u8]) -> (&[u8], Option<&[u8]>)
+    ensures before { result.0.now ≡ mantissa text.now }
+    ensures after { option_copied result.1 ≡ marked_exponent text.now }
 {
-    text.iter()
-        .position(|byte| matches!(*byte, b'e' | b'E'))
-        .unwrap_or(text.len())
+    match mark(text) {
+        Some(at) => (&text[..at], Some(&text[at + 1..])),
+        None => (text, None),
+    }
 }
 
-// The power of ten of a covariance without sign whose first `e` or `E` stands after so many bytes.
-fn power(text: &[u8], before: usize) -> i64
-    requires { (before ≡ before_mark text.now) × (length text.now ≤ 20) × (is_scaled text.now ≡ true) }
+// Where the first `e` or `E` stands.
+fn mark(text: &[u8]) -> Option<usize>
+    ensures { result ≡ position is_mark text.now }
+{
+    text.iter().position(|byte| matches!(*byte, b'e' | b'E'))
+}
+
+// The power of ten of a covariance without sign.
+fn power(text: &[u8]) -> i64
+    requires { (length text.now ≤ 20) × (is_scaled text.now ≡ true) }
     ensures { result ≡ power text.now }
 {
-    let mantissa = Unsigned::of(front(text, before));
-    let exponent = tail(tail(text, before), 1);
+    let (mantissa, exponent) = halves(text);
+    let exponent = exponent.unwrap_or(b"");
     let signed = with_sign(is_minus(exponent), number(exponent));
-    signed - mantissa.places() as i64
+    signed - Unsigned::of(mantissa).places() as i64
 }
 
 // The whole number that the digits of a text of at most 20 bytes make, in two parts, with the sign before it and its power of ten.

@@ -1,4 +1,4 @@
--- `pack::block::write_blocks` meets its contract. The invariant: the blocks of the first k cuts are written.
+-- `pack::block::write_blocks` meets its contract. The invariant: the blocks of the first cuts are written.
 use Rattle.pack.specs.Inner.{observed}
 use Rattle.pack.proofs.BlockLaws.{Blocks}
 use Rattle.pack.proofs.block.write_blocks.Given as goal

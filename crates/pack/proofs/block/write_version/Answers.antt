@@ -5,7 +5,4 @@ use Rattle.pack.proofs.block.write_version.Goals as goal
 
 pub returns : goal.returns
 unfolding line_of barred
-returns c =
-    let pre = c.requires in
-    let put = c.put in
-    put_wrote _ _ pre put.ensures
+returns c = put_wrote _ _ c.requires c.put.ensures

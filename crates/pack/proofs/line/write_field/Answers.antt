@@ -1,25 +1,13 @@
 -- `pack::line::write_field` meets its contract.
-use Rattle.pack.proofs.WritingLaws.{put_length_lem, put_inside, put_ended}
 use native.Mathlib.Omega.{arith}
+use Rattle.pack.proofs.WritingLaws.{put_length_lem, put_inside, put_ended}
 use Rattle.pack.proofs.line.write_field.Goals as goal
 
 pub bounds-output-written : goal.bounds-output-written
-bounds-output-written c =
-    let args = c.args in
-    let pre = c.requires in
-    let put = c.put-written in
-    put_inside args.value.now args.output.now pre put.ensures
+bounds-output-written c = put_inside c.args.value.now c.args.output.now c.requires c.put-written.ensures
 
 pub overflow_add-result : goal.overflow_add-result
-overflow_add-result c =
-    let args = c.args in
-    let pre = c.requires in
-    let put = c.put-written in
-    omega (arith, put_length_lem args.value.now args.output.now pre put.ensures)
+overflow_add-result c = omega (arith, put_length_lem c.args.value.now c.args.output.now c.requires c.put-written.ensures)
 
 pub returns : goal.returns
-returns c =
-    let args = c.args in
-    let pre = c.requires in
-    let put = c.put-written in
-    put_ended args.value.now args.output.now pre put.ensures args.end
+returns c = put_ended c.args.value.now c.args.output.now c.requires c.put-written.ensures c.args.end

@@ -1,5 +1,4 @@
 use mathlib.Core.Path.{◌≡◌, sym, ◌∙◌}
-use native.Mathlib.Omega.{arith}
 use Rattle.std.proofs.lemmas.Bool.{not-true, not-false}
 use Rattle.std.proofs.lemmas.Result.{err_from_is_err_and}
 use Rattle.report.specs.Report.{is_hash}
@@ -29,18 +28,6 @@ returns-in_err-opened c =
     let start = sym c.if-not-starts_with.false ∙ hash (goal.at.returns-in_err-opened c).After-starts_with in
     let p = err_from_is_err_and c.from_residual.result c.from_residual.ensures.1 in
     rw (p.1, p.2) (line_closed printable start (sym c.if-not-same.false ∙ c.same.ensures) c.opened.ensures c.in_err-opened.was)
-
-pub slice_bounds-text-count : goal.slice_bounds-text-count
-slice_bounds-text-count c = omega (arith, c.requires.0.lies.order)
-
-pub slice_bounds-text-start : goal.slice_bounds-text-start
-slice_bounds-text-start c = c.requires.0.lies.order
-
-pub slice_bounds-text-end : goal.slice_bounds-text-end
-slice_bounds-text-end c = omega (arith, c.requires.0.lies.in_text)
-
-pub take_other-requires : goal.take_other-requires
-take_other-requires c = c.requires.0
 
 pub returns : goal.returns
 returns c =

@@ -1,8 +1,7 @@
 use mathlib.Core.Path.{ap}
 use Rattle.std.proofs.Common.{Ok, Err}
 use Rattle.std.proofs.lemmas.Result.{err_from_is_err_and}
-use native.Mathlib.Omega.{arith}
-use Rattle.report.proofs.AnswerLaws.{element_from, accepted_of, refused_of, located_refused, located_none, located_no_element, located_noted, element_low}
+use Rattle.report.proofs.AnswerLaws.{accepted_of, refused_of, located_refused, located_none, located_no_element, located_noted}
 use Rattle.report.proofs.place.located.Goals as goal
 
 pub returns-in_err-count : goal.returns-in_err-count
@@ -15,12 +14,6 @@ returns-then-observation-count c = located_none _ _ (accepted_of c.read.ensures 
 
 pub returns-then-element : goal.returns-then-element
 returns-then-element c = located_no_element _ _ (accepted_of c.read.ensures c.in_ok-count.was) c.if-observation-count.false c.if-element.true (ap Err c.of_request-then-element.ensures)
-
-pub overflow_sub-element : goal.overflow_sub-element
-overflow_sub-element c = omega (arith, element_from c.args.element c.if-element.false)
-
-pub shown_in-requires : goal.shown_in-requires
-shown_in-requires c = element_low c.args.element c.if-element.false
 
 pub returns : goal.returns
 returns c =

@@ -1,5 +1,6 @@
-use mathlib.Core.Path.{refl}
+use mathlib.Core.Path.{ap, refl}
 use native.Mathlib.Omega.{arith}
+use Rattle.std.proofs.Common.{Err}
 use Rattle.std.proofs.lemmas.Result.{err_from_is_err_and}
 use Rattle.report.specs.Inner.{NextLine}
 use Rattle.report.proofs.ReaderLaws.{read_start, read_long, read_ends, read_cut, line_asks, read_bad, read_next, read_row, line_of, end_of, cut_of}
@@ -11,13 +12,10 @@ line : (c : In-Some) → NextLine c.args.report.now c.loop-line.place.at c.loop-
 line c = line_of c.next.ensures c.in_ok-line.was c.in-Some.is
 
 pub returns-then-report-gt-TEXT_LIMIT : goal.returns-then-report-gt-TEXT_LIMIT
-returns-then-report-gt-TEXT_LIMIT c = read_long c.if-report-gt-TEXT_LIMIT.true refl
+returns-then-report-gt-TEXT_LIMIT c = read_long c.if-report-gt-TEXT_LIMIT.true (ap Err c.of_request.ensures)
 
 pub loop-line-init : goal.loop-line-init
 loop-line-init c = read_start refl c.if-report-gt-TEXT_LIMIT.false c.requires
-
-pub next-requires : goal.next-requires
-next-requires c = (c.loop-line.invariant.lines_few, c.loop-line.invariant.short)
 
 pub returns-in_err-line : goal.returns-in_err-line
 returns-in_err-line c =
@@ -27,9 +25,6 @@ returns-in_err-line c =
 
 pub take_line-requires : goal.take_line-requires
 take_line-requires c = line_asks c.loop-line.invariant (line (goal.at.take_line-requires c).In-Some)
-
-pub overflow_add-k : goal.overflow_add-k
-overflow_add-k c = omega (arith, c.loop-line.invariant.rows_few)
 
 pub returns-in-Err : goal.returns-in-Err
 returns-in-Err c = read_bad c.loop-line.invariant (line (goal.at.returns-in-Err c).In-Some) c.take_line.ensures c.in-Err.is c.on_line.ensures

@@ -1,6 +1,5 @@
-use native.Mathlib.Omega.{arith}
 use Rattle.std.proofs.lemmas.Result.{err_from_is_err_and}
-use Rattle.report.proofs.RowLaws.{row_refused, row_many, row_count, fields_ask, wrong_of, row_fields, good_of, row_held}
+use Rattle.report.proofs.RowLaws.{row_refused, row_many, row_count, wrong_of, row_fields, good_of, row_held}
 use Rattle.report.proofs.row.data_line.Goals as goal
 
 pub returns-then-k-ge-ROW_LIMIT : goal.returns-then-k-ge-ROW_LIMIT
@@ -8,9 +7,6 @@ returns-then-k-ge-ROW_LIMIT c = row_refused (row_many _ _ _ c.if-k-ge-ROW_LIMIT.
 
 pub returns-then-line-columns : goal.returns-then-line-columns
 returns-then-line-columns c = row_refused (row_count c.requires c.if-k-ge-ROW_LIMIT.false c.if-line-columns.true)
-
-pub take_fields-requires : goal.take_fields-requires
-take_fields-requires c = fields_ask c.requires c.if-k-ge-ROW_LIMIT.false c.if-line-columns.false
 
 pub returns-in_err-marks : goal.returns-in_err-marks
 returns-in_err-marks c =

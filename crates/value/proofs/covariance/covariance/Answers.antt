@@ -11,7 +11,7 @@ use mir.Val.{of_z, to_z}
 use native.Mathlib.Omega.{arith}
 use Rattle.value.proofs.Checks.{found_covariance}
 use Rattle.value.proofs.Scaled.{covariance_is}
-use Rattle.value.specs.Covariance.{is_scaled}
+use Rattle.value.specs.Covariance.{before_mark, is_scaled}
 use Rattle.value.specs.Sign.{bare}
 use Rattle.value.proofs.covariance.covariance.Goals as goal
 use Rattle.value.proofs.covariance.covariance.Goals.{After-bare-rest}
@@ -23,20 +23,18 @@ passed c =
     let right = found_covariance s c.in_ok-check_covariance.ensures in
     rw c.bare-rest.ensures (ltb-false 20 (length (bare true s)) right.0, right.0, right.1)
 
-pub power-scale-requires : goal.power-scale-requires
-power-scale-requires c = let right = passed (goal.at.power-scale-requires c).After-bare-rest in (c.before_mark-before.ensures, right.0, right.2)
+pub power-requires : goal.power-requires
+power-requires c = let right = passed (goal.at.power-requires c).After-bare-rest in (right.0, right.2)
 
 pub in_parts-requires : goal.in_parts-requires
 in_parts-requires c =
-    let after-bare = c in
-    omega (arith, ap length c.front.ensures, length-take c.before_mark-before.result after-bare.bare-rest.result.now, (passed (goal.at.in_parts-requires c).After-bare-rest).0)
+    let rest = c.bare-rest.result.now in
+    omega (arith, ap length c.halves.ensures.before, length-take (before_mark rest) rest, (passed (goal.at.in_parts-requires c).After-bare-rest).0)
 
 pub returns : goal.returns
 returns c =
-    let after-mark = c in
-    let after-bare = after-mark in
     let right = passed (goal.at.returns c).After-bare-rest in
-    let value = covariance_is after-bare.args.text.now after-bare.bare-rest.result.now after-bare.bare-rest.ensures right.1 right.2 in
-    let power = c.power-scale in
+    let value = covariance_is c.args.text.now c.bare-rest.result.now c.bare-rest.ensures right.1 right.2 in
+    let power = c.power in
     let back : to_z w64 (of_z w64 power.result) ≡ power.result = to_z-of_z {w = w64} (record { sfits = power.type_inv }) in
-    rw (value, c.in_parts.ensures, back, c.front.ensures, c.is_minus.ensures, power.ensures, after-mark.before_mark-before.ensures)
+    rw (value, c.in_parts.ensures, back, c.halves.ensures.before, c.is_minus.ensures, power.ensures)

@@ -1,15 +1,17 @@
 -- `value::covariance::power` meets its contract.
 use Prim.Native.Nat.{ℕ}
 use lib.IntN.{pos}
-use lib.ListN.{drop, take}
-use mathlib.Core.Path.{◌∙◌, ◌≡◌, ap}
+use lib.ListN.{take}
+use denote.Ref.{Bor}
+use mathlib.Core.List.{List}
+use mathlib.Core.Path.{◌∙◌, ◌≡◌, ap, refl}
 use mir.Facts.{to_z-of_z, to_z_pos}
 use mir.Syntax.{w64}
 use mir.Val.{of_z, to_z}
 use native.Mathlib.Omega.{arith}
 use Rattle.text.proofs.Numbers.{number_small}
 use Rattle.text.proofs.Parts.{take_below}
-use Rattle.value.proofs.Scaled.{PowerIs, power_is}
+use Rattle.value.proofs.Scaled.{PowerIs, power_is, exponent_is}
 use Rattle.value.specs.Decimal.{places}
 use Rattle.value.proofs.covariance.power.Goals as goal
 use Rattle.value.proofs.covariance.power.Goals.{After-places}
@@ -18,12 +20,11 @@ use Rattle.value.proofs.covariance.power.Goals.{After-places}
 worked : (c : After-places)
     → PowerIs c.args.text.now c.with_sign-signed.result c.places.result
 worked c =
-    let start = c in
-    let after-number = c in
-    let tails = after-number.tail-exponent.ensures ∙ ap (drop 1) after-number.tail.ensures in
-    power_is start.args.text.now c.with_sign-signed.result c.places.result start.requires.1 start.requires.2
-    (c.with_sign-signed.ensures ∙ rw (after-number.is_minus.ensures, after-number.number.ensures, tails, start.requires.0))
-    (c.places.ensures ∙ ap places (after-number.of-mantissa.ensures ∙ after-number.front.ensures ∙ ap (λ (n : ℕ). take n start.args.text.now) start.requires.0))
+    let text = c.args.text.now in
+    let half = ap (λ (b : Bor (List ℕ)). b.now) c.unwrap_or-exponent.ensures ∙ exponent_is text c.halves.result.1 _ refl c.halves.ensures.after in
+    power_is text c.with_sign-signed.result c.places.result c.requires.0 c.requires.1
+    (c.with_sign-signed.ensures ∙ rw (c.is_minus.ensures, c.number.ensures, half))
+    (c.places.ensures ∙ ap places (c.of.ensures ∙ c.halves.ensures.before))
 
 -- The numbers of the code are these.
 exponent-back : (c : After-places) → to_z w64 (of_z w64 c.with_sign-signed.result) ≡ c.with_sign-signed.result
@@ -33,7 +34,7 @@ places-back : (c : After-places) → to_z w64 c.places.result ≡ pos c.places.r
 places-back c = to_z_pos w64 (omega (arith, (worked c).few))
 
 pub with_sign-signed-requires : goal.with_sign-signed-requires
-with_sign-signed-requires c = omega (arith, c.number.ensures, number_small (take 18 c.tail-exponent.result.now) 18 (take_below 18 c.tail-exponent.result.now))
+with_sign-signed-requires c = omega (arith, c.number.ensures, number_small (take 18 c.unwrap_or-exponent.result.now) 18 (take_below 18 c.unwrap_or-exponent.result.now))
 
 pub overflow_cast-result : goal.overflow_cast-result
 overflow_cast-result c = record { sfits = omega (arith, (worked (goal.at.overflow_cast-result c).After-places).few) }
