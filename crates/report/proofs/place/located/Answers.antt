@@ -2,7 +2,7 @@ use mathlib.Core.Path.{ap}
 use Rattle.std.proofs.Common.{Ok, Err}
 use Rattle.std.proofs.lemmas.Result.{err_from_is_err_and}
 use Rattle.report.proofs.AnswerLaws.{accepted_of, refused_of, located_refused, located_none, located_no_element, located_noted}
-use Rattle.report.proofs.place.located_in.Goals as goal
+use Rattle.report.proofs.place.located.Goals as goal
 
 pub returns-in_err-count : goal.returns-in_err-count
 returns-in_err-count c =
