@@ -65,12 +65,7 @@ fn held(marks: Marks, before: Option<bool>) -> Result<bool, Fault>
 }
 
 // The fields of a data line: the first fault, or the marks of its observation; where each value lies is noted in the row.
-fn take_fields(
-    report: &[u8],
-    line: Line,
-    columns: &[u8],
-    row: &mut Row,
-) -> Result<Marks, Fault>
+fn take_fields(report: &[u8], line: Line, columns: &[u8], row: &mut Row) -> Result<Marks, Fault>
     requires { FieldsAsk report.now columns.now line.from line.till }
     ensures { FieldsAre report.now columns.now row.new line.from line.till result }
 {
