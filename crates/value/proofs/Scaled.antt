@@ -61,12 +61,15 @@ module _ (s : List ℕ) where
       (omega (arith, ltb-true first (length s) q, here), sym is ∙ sym here))
       (λ q. let none : ◌≡◌ {A = Option ℕ} (Some i) None = rw q at e in cc)
 
-  pub mark_none : None ≡ position is_mark s → before_mark s ≡ length s
+  mark_none : None ≡ position is_mark s → before_mark s ≡ length s
   mark_none e =
       let first = position_or_len is_mark s in
       bools (ltb first (length s))
       (λ q. let some : ◌≡◌ {A = Option ℕ} None (Some first) = rw q at e in cc)
       (λ q. sym (rw q at (mark_is s)))
+
+  pub before_none : None ≡ position is_mark s → s ≡ mantissa s
+  before_none e = rw (mark_none e, take_all (length s) s (omega arith))
 
   pub after_some : (i : ℕ) → Some i ≡ position is_mark s → Some (take (length s - (i + 1)) (drop (i + 1) s)) ≡ marked_exponent s
   after_some i e =

@@ -21,6 +21,7 @@ const WIDTH: usize = 20;
 const PART_BASE: u64 = 10000000000;
 
 // A text as a covariance.
+#[tactic(auto, using(crate::proofs::Scaled::covariance_is), unfolding(crate::specs::Covariance::covariance))]
 pub fn covariance(text: &[u8]) -> Result<Value, Kind>
     ensures { result ≡ covariance text.now }
 {
@@ -64,6 +65,7 @@ fn is_exponent(text: &[u8]) -> bool
 }
 
 // What stands before the first `e` or `E` of a text, and what stands after it, where there is one.
+#[tactic(auto, using(crate::proofs::Scaled::mark_some, crate::proofs::Scaled::before_none, crate::proofs::Scaled::after_some, crate::proofs::Scaled::after_none))]
 fn halves(text: &[u8]) -> (&[u8], Option<&[u8]>)
     ensures before { result.0.now ≡ mantissa text.now }
     ensures after { option_copied result.1 ≡ marked_exponent text.now }
