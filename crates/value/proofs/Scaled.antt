@@ -15,7 +15,7 @@ use mir.Val.{SFits}
 use borrow.Author.Tests.{eqb-true, eq-eqb, ne_eqb, leb-true, ltb-true, ltb-false, lt-ltb, le-ltb}
 use Rattle.std.specs.List.{position, position_or_len}
 use Rattle.std.specs.Option.{option_copied, unwrap_or}
-use Rattle.std.specs.Prelude.{Ok, Option, Some, None, cond}
+use Rattle.std.specs.Prelude.{Option, Some, None, cond}
 use Rattle.std.proofs.lemmas.Bool.Decides.{nat_tests}
 use Rattle.text.specs.Class.{is_digit}
 use Rattle.text.specs.Digits.{after, number}
@@ -26,7 +26,7 @@ use Rattle.value.proofs.Signs.{difference_fits}
 use Rattle.value.specs.Decimal.{is_decimal, places}
 use Rattle.value.specs.Numeral.{is_digits}
 use Rattle.value.specs.Sign.{is_minus, is_signed, bare, with_sign}
-use Rattle.value.specs.Covariance.{is_mark, before_mark, mantissa, exponent, marked_exponent, is_exponent, is_scaled, size, power, scaled_as, covariance}
+use Rattle.value.specs.Covariance.{is_mark, before_mark, mantissa, exponent, marked_exponent, is_exponent, is_scaled, power, scaled_as}
 use Rattle.value.specs.declared.Value.TheVariants.{Scaled}
 
 -- A byte before them makes a place one more, and the length too.
@@ -195,9 +195,3 @@ power_is s signed count l e signed_is count_is =
       fits = rw (signed_is, whole, count_is) (power_fits (is_minus (exponent s)) (number 0 (exponent s)) (places (mantissa s)) small few);
       is = rw (signed_is, whole, count_is);
     }
-
--- The value of a text that passed its check, from the text less its sign.
-pub covariance_is : (text rest : List ℕ) → rest ≡ bare true text → ltb 20 (length rest) ≡ false → is_scaled rest ≡ true
-    → covariance text ≡ Ok (scaled_as (is_minus text) (number 0 (mantissa rest)) (power rest))
-unfolding covariance size
-covariance_is text rest e narrow form = rw (← e, narrow, form)

@@ -4,7 +4,7 @@ use lib.Dec.{lit≤}
 use mathlib.Core.Path.{◌∙◌}
 use native.Mathlib.Omega.{arith}
 use Rattle.value.proofs.Days.{date_parts, month_length_small, month_small, year_small}
-use Rattle.value.proofs.Signs.{less_fits, less_is}
+use Rattle.value.proofs.Signs.{less_is}
 use Rattle.value.specs.Calendar.{day_number, is_leap}
 use Rattle.value.proofs.calendar.Date.day_number.Goals as goal
 use Rattle.value.proofs.calendar.Date.day_number.Goals.{After-month_days}
