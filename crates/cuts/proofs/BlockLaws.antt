@@ -21,11 +21,6 @@ head_fits columns names e = record { fits = omega (arith, names_low columns) }
 pub lines_fit : (columns names n : ℕ) → names ≡ name_bytes columns → n ≤ 64 → Fits w64 (15 + names + n)
 lines_fit columns names n e h = record { fits = omega (arith, names_low columns) }
 
--- Its parts make it.
-pub head_made : (columns names n : ℕ) → names ≡ name_bytes columns → n ≡ ones columns
-    → ◌≡◌ {A = Head} (record { columns = columns; count = n; bytes = 15 + names + n }) (head_of columns)
-head_made columns names n e d = λ i. record { columns = columns; count = d i; bytes = 15 + e i + d i }
-
 -- A head with columns more, from one that is known.
 module _ (known : Head) (more : ℕ) (is : known ≡ head_of known.columns) where
   abbrev columns : ℕ
@@ -57,7 +52,7 @@ module _ (known : Head) (more : ℕ) (is : known ≡ head_of known.columns) wher
         → ◌≡◌ {A = Head} (record { columns = columns; count = n; bytes = known.bytes - known.count + names + n }) (head_of columns)
     head_grown n d = λ i. record { columns = columns; count = d i; bytes = names_are i + d i }
 
-pub ruleset head_needs = (head_fits, lines_fit, head_made)
+pub ruleset head_needs = (head_fits, lines_fit)
 
 pub ruleset after_needs = (or_above, head_kept, count_within, grown_fits, grown_lines_fit, head_grown)
 

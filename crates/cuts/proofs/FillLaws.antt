@@ -7,13 +7,11 @@ use native.Mathlib.Omega.{arith}
 use lib.ListN.{length, drop, get_or, length-drop, drop_of_length-le, set, length-set}
 use native.Mathlib.Numerals.{add-one}
 use lib.Seq.{drop-cons, drop-drop}
-use mir.Syntax.{w64}
-use mir.Val.{Fits}
 use native.Mathlib.Nat.{le_trans}
-use Rattle.std.specs.Prelude.{Option, Some, None}
+use Rattle.std.specs.Prelude.{Option, None}
 use Rattle.cuts.specs.Cheapest.{last_least, best_costs, first_more, first_blocks}
-use Rattle.cuts.specs.Block.{most_rows, Row, block_bytes, all_more}
-use Rattle.cuts.specs.Look.{block_limit, end_cost, Small, TailIs, TailOf, TailBehind, BestEnd, FoundIs, Fit, Filled, Best}
+use Rattle.cuts.specs.Block.{Row, block_bytes, all_more}
+use Rattle.cuts.specs.Look.{block_limit, end_cost, Small, TailIs, TailOf, TailBehind, BestEnd, FoundIs, Fit, Filled}
 use Rattle.cuts.specs.declared.tail.Tail.{Tail}
 use Rattle.cuts.specs.declared.tail.Found.{Found}
 use Rattle.cuts.proofs.SumLaws.{end, end_is, drop_set, no_row, values_drop_le, count_drop_le}
@@ -49,10 +47,6 @@ module _ (more : Row → List Row → ℕ) (runs : List Row) (costs firsts : Lis
   unfolding x xs
   ahead = drop-cons runs j no_row h
 
-  after_length : length xs ≡ length runs - suc j
-  unfolding xs
-  after_length = length-drop (suc j) runs
-
   -- The runs from j on, and the costs after it, as they are looked at.
   runs_lent : end runs j ≡ x ∷ xs
   runs_lent = end_is runs j ∙ ahead
@@ -67,9 +61,6 @@ module _ (more : Row → List Row → ℕ) (runs : List Row) (costs firsts : Lis
 
     best_is : best ≡ last_least (end_cost (x ∷ xs) (best_costs block_bytes more xs)) (more x xs)
     best_is = least_is (end_cost (x ∷ xs) (best_costs block_bytes more xs)) (more x xs) best found.least
-
-    best_low : best < most_rows
-    best_low = omega (arith, found.least.to, after_length, fit.few)
 
     -- With the run j the costs and the first blocks are filled in from there on.
     filled_on : (w : ℕ) → w ≡ best + 1 → Filled more runs j (set costs j cost) (set firsts j w)
@@ -122,16 +113,6 @@ module _ (runs : List Row) (costs firsts : List ℕ) (fit : Fit runs costs first
     within : length rest ≤ length rest
     within = omega arith
 
-    best_low_all : found.best < most_rows
-    unfolding rest
-    best_low_all = best_low all_more runs costs firsts fit j h f within found.best found.cost best_end
-
-    pub best_fits : Fits w64 (found.best + 1)
-    best_fits = record { fits = omega (arith, best_low_all) }
-
-    pub best_narrow : found.best + 1 < 65536
-    best_narrow = omega (arith, best_low_all)
-
     pub fill_step : (w : ℕ) → w ≡ found.best + 1 → Filled all_more runs j (set costs j found.cost) (set firsts j w)
     unfolding rest
     fill_step = filled_on all_more runs costs firsts fit j h f within found.best found.cost best_end
@@ -143,7 +124,7 @@ module _ (runs : List Row) (costs firsts : List ℕ) (fit : Fit runs costs first
         ∙ ap (λ (n : ℕ). drop n costs) (sym (add-one j)) in
         subst₂ (λ (l : List Row) (c : List ℕ). TailIs l c found.tail) (end_is runs j) (end_is costs (j + 1) ∙ sym kept) s.tail
 
-pub ruleset fill_needs = (end_small, tail_lent, best_fits, best_narrow, fill_step, tail_step)
+pub ruleset fill_needs = (end_small, tail_lent, fill_step, tail_step)
 
 -- ---- the loop over all runs
 
@@ -167,31 +148,4 @@ fill_end more runs costs firsts fit =
 pub tail_end : (runs : List Row) (after : List ℕ) → TailOf (drop (length runs) runs) after None
 tail_end runs after = record { case = omega (arith, length-drop (length runs) runs) }
 
--- The tail that a run gives.
-pub tail_some : (runs : List Row) (after : List ℕ) (tail : Tail) → TailIs runs after tail → TailOf runs after (Some tail)
-tail_some runs after tail t = record { case = t }
-
--- Lists that are filled in are as long as they were.
-module _ (more : Row → List Row → ℕ) (runs : List Row) (costs firsts filledCosts filledFirsts : List ℕ) (i : ℕ) (fit : Fit runs costs firsts)
-    (f : Filled more runs i filledCosts filledFirsts) where
-  pub fit_filled : Fit runs filledCosts filledFirsts
-  fit_filled = record {
-    few = fit.few;
-    sum = fit.sum;
-    all = fit.all;
-    costs_length = omega (arith, f.costs_length);
-    firsts_length = omega (arith, f.firsts_length);
-  }
-
-  pub costs_kept : length filledCosts ≡ length costs
-  costs_kept = omega (arith, fit_filled.costs_length, fit.costs_length)
-
-  pub firsts_kept : length filledFirsts ≡ length firsts
-  firsts_kept = omega (arith, fit_filled.firsts_length, fit.firsts_length)
-
--- With the first run all are filled in.
-pub filled_all : (more : Row → List Row → ℕ) (runs : List Row) (i : ℕ) (costs firsts : List ℕ) → i ≤ 0 → Filled more runs i costs firsts → Best more runs costs firsts
-filled_all more runs zero costs firsts h f = record { costs_are = f.costs_are; firsts_are = f.firsts_are }
-filled_all more runs (suc i) costs firsts h f = absurd (omega arith)
-
-pub ruleset fill_all_needs = (fill_end, tail_end, tail_some, fit_filled, costs_kept, firsts_kept, filled_all)
+pub ruleset fill_all_needs = (fill_end, tail_end)

@@ -127,9 +127,6 @@ module _ (runs : List Row) (after : List ℕ) (small : Small runs after) where
   pub start_few : (n : ℕ) → n ≡ (get_or runs 0 no_row).count → n ≤ most_rows
   start_few n e = omega (arith, e, (run_le runs 0).1, small.all)
 
-  pub cost_fits : (c i : ℕ) → c < block_limit → Fits w64 (c + get_or after i 0)
-  cost_fits c i h = record { fits = omega (arith, small.low i) }
-
   pub start_looked : (w n c : ℕ) (h : Head) → h ≡ head_of (get_or runs 0 no_row).set → w ≡ (get_or runs 0 no_row).size → n ≡ (get_or runs 0 no_row).count
       → (c ≡ bytes_of h.columns w n) × (c < block_limit)
       → Looked runs after (record { head = h; values = w; rows = n; from = 0; end = 0; best = 0; cost = c + get_or after 0 0 })
@@ -147,9 +144,6 @@ module _ (runs : List Row) (after : List ℕ) (small : Small runs after) where
 
     pub head_known : l.head ≡ head_of l.head.columns
     head_known = head_own l.head _ s.head
-
-    pub end_after : l.end < length after
-    end_after = omega (arith, s.inside, small.rest)
 
     pub anew_looked : (c : ℕ) → (c ≡ bytes_of l.head.columns l.values l.rows) × (c < block_limit)
         → Looked runs after (record { head = l.head; values = l.values; rows = l.rows; from = l.end; end = l.end; best = l.end; cost = c + get_or after l.end 0 })
@@ -172,9 +166,6 @@ module _ (runs : List Row) (after : List ℕ) (small : Small runs after) where
 
       pub rows_fit : (n : ℕ) → n ≡ (get_or runs (l.end + 1) no_row).count → Fits w64 (l.rows + n)
       rows_fit n e = record { fits = omega (arith, step_few n e) }
-
-      pub step_after : l.end + 1 < length after
-      step_after = omega (arith, small.rest)
 
       module _ (w n c : ℕ) (h : Head) (e : w ≡ (get_or runs (l.end + 1) no_row).size) (g : n ≡ (get_or runs (l.end + 1) no_row).count)
           (a : h ≡ head_of (bit_or l.head.columns (get_or runs (l.end + 1) no_row).set)) (q : (c ≡ bytes_of h.columns (l.values + w) (l.rows + n)) × (c < block_limit)) where
@@ -231,8 +222,8 @@ module _ (runs : List Row) (after : List ℕ) (columns : ℕ) (all : columns ≡
         go (yes g) = absurd (h (head_is ∙ ap (union 0) (take_all (suc l.end) runs g) ∙ sym all))
         go (no g) = omega arith
 
-pub ruleset first_needs = (head_own, start_small, start_few, cost_fits, start_looked)
+pub ruleset first_needs = (head_own, start_small, start_few, start_looked)
 
-pub ruleset anew_needs = (head_known, values_small, rows_few, end_after, cost_fits, anew_looked)
+pub ruleset anew_needs = (head_known, values_small, rows_few, anew_looked)
 
-pub ruleset further_needs = (head_own, head_known, step_small, values_fit, step_few, rows_fit, step_after, cost_fits, step_take, step_leave)
+pub ruleset further_needs = (head_own, step_small, values_fit, step_few, rows_fit, step_take, step_leave)

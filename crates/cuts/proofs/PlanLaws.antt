@@ -1,15 +1,15 @@
 -- The search over runs, from the costs and first blocks that are filled in to the plan. It holds for any limit `more` of a block.
 use mathlib.Core.Path.{◌≡◌, refl, sym, ap, ◌∙◌}
 use mathlib.Core.List.{List, [], ◌∷◌, ◌++◌}
-use Prim.Native.Nat.{ℕ, ◌≤◌, ◌<◌, zero, suc, ◌+◌}
+use Prim.Native.Nat.{ℕ, ◌≤◌, ◌<◌, zero, suc}
 use native.Mathlib.Omega.{arith}
 use lib.ListN.{length, take, drop, get_or, get_or-append}
-use lib.Seq.{length-take-le, take_at}
+use lib.Seq.{take_at}
 use Rattle.cuts.specs.Runs.{in_rows, ReadyRuns, PlannedRuns}
 use Rattle.cuts.specs.Cheapest.{follow, best_costs, best_cost, first_more, first_blocks, chosen}
-use Rattle.cuts.specs.Walk.{block_rows, Walkable}
+use Rattle.cuts.specs.Walk.{block_rows}
 use Rattle.cuts.specs.Block.{Row, row_count, block_bytes}
-use Rattle.cuts.specs.Look.{Fit, Best}
+use Rattle.cuts.specs.Look.{Best}
 use Rattle.cuts.proofs.CheapestLaws.{costs_at, follow_at}
 
 module _ (more : Row → List Row → ℕ) where
@@ -36,22 +36,6 @@ module _ (more : Row → List Row → ℕ) where
   rows_at (x ∷ xs) (y ∷ ys) (suc skip) e = rows_at xs ys skip (omega arith)
 
 module _ (runs : List Row) (before costs₀ firsts₀ : List ℕ) (ready : ReadyRuns runs before) (hc : length runs < length costs₀) (hf : length runs ≤ length firsts₀) where
-  -- The parts of the lent lists that are filled in are long enough.
-  pub part_costs : length runs + 1 ≡ length (take (length runs + 1) costs₀)
-  part_costs = sym (length-take-le (length runs + 1) costs₀ (omega arith))
-
-  pub part_firsts : length runs ≡ length (take (length runs) firsts₀)
-  part_firsts = sym (length-take-le (length runs) firsts₀ (omega arith))
-
-  pub ready_fit : Fit runs (take (length runs + 1) costs₀) (take (length runs) firsts₀)
-  ready_fit = record {
-    few = ready.few;
-    sum = ready.sum;
-    all = ready.all;
-    costs_length = sym part_costs;
-    firsts_length = sym part_firsts;
-  }
-
   module _ (more : Row → List Row → ℕ) (costs firsts costsAfter firstsAfter : List ℕ) (b : Best more runs costs firsts) where
     long : length firsts ≡ length runs
     long = ap length b.firsts_are ∙ firsts_long more runs
@@ -59,9 +43,6 @@ module _ (runs : List Row) (before costs₀ firsts₀ : List ℕ) (ready : Ready
     -- The first blocks can be gone along.
     pub again_firsts : length runs ≡ length (take (length runs) (firsts ++ firstsAfter))
     again_firsts = rw (take_at firsts firstsAfter (length runs) long) (sym long)
-
-    pub again_walk : Walkable runs (take (length runs) (firsts ++ firstsAfter)) before
-    again_walk = record { same = again_firsts; room = omega (arith, again_firsts, ready.room); few = ready.all }
 
     -- What is written is the chosen cut list, and the first cost is the best.
     is_cut : block_rows 0 (take (length runs) (firsts ++ firstsAfter)) runs ≡ in_rows (chosen block_bytes more runs) runs
@@ -79,5 +60,3 @@ module _ (runs : List Row) (before costs₀ firsts₀ : List ℕ) (ready : Ready
         → n ≤ length (take (length runs) (firsts ++ firstsAfter)) → length after ≡ length before
         → PlannedRuns more runs (record { blocks = n; bytes = get_or (costs ++ costsAfter) 0 0 }) before after
     planned_runs n after e k h l = record { within = omega (arith, again_firsts, ready.room); cut = e ∙ is_cut; bytes = is_best; kept = k }
-
-pub ruleset plan_needs = (part_costs, part_firsts, ready_fit, again_firsts, again_walk, planned_runs)

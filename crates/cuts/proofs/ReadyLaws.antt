@@ -1,5 +1,5 @@
 -- The input is ready where the tests say so, and the promise follows from what was planned.
-use mathlib.Core.Path.{◌≡◌, refl, sym, ◌∙◌, subst}
+use mathlib.Core.Path.{◌≡◌, refl, sym, ◌∙◌}
 use mathlib.Core.Bool.{Bool, true, false, ◌&&◌}
 use mathlib.Core.List.{List, [], ◌∷◌}
 use Prim.Native.Nat.{ℕ, ◌≤◌}
@@ -8,10 +8,8 @@ use lib.ListN.{length}
 use borrow.Author.Tests.{leb-true, eqb-true}
 use lib.Dec.{leb, eqb}
 use Rattle.cuts.specs.Runs.{few_runs, press, runs_in, Ready}
-use Rattle.cuts.specs.Cuts.{same_mark}
-use Rattle.cuts.specs.Plan.{marked_rows, marked_bytes, ready, Planned, Answered, ShortestPromised}
+use Rattle.cuts.specs.Plan.{ready}
 use Rattle.cuts.specs.Block.{most_rows, most_bytes, rows_of, total, value_bytes}
-use Rattle.cuts.specs.declared.Plan.{Plan}
 use Rattle.cuts.proofs.PressLaws.{rows_few, press_short, press_count}
 
 -- ---- the promise
@@ -33,7 +31,7 @@ sizes_values (m ∷ sets) [] = omega arith
 sizes_values (m ∷ sets) (s ∷ sizes) = omega (arith, sizes_values sets sizes)
 
 module _ (marks sets sizes cuts : List ℕ) (b : Bool) (is : b ≡ ready marks sets sizes cuts) where
-  -- The input is ready where the test passes, and the promise is what the test says.
+  -- The input is ready where the test passes.
   pub is_marked : b ≡ true → length marks ≡ length sets
   unfolding ready
   is_marked e = eqb-true (length marks) (length sets) (and_left (eqb (length marks) (length sets)) _ (sym is ∙ e))
@@ -51,16 +49,7 @@ module _ (marks sets sizes cuts : List ℕ) (b : Bool) (is : b ≡ ready marks s
         room = leb-true (length sets) (length cuts) (and_left (leb (length sets) (length cuts)) _ rest);
       }
 
-  pub is_planned : (plan : Plan) (after : List ℕ) → b ≡ true → Planned marked_bytes (same_mark (λ marked. marked.mark)) (marked_rows marks sets sizes) plan cuts after
-      → ShortestPromised marks sets sizes plan cuts after
-  is_planned plan after e p = subst (λ (t : Bool). Answered t (marked_rows marks sets sizes) plan cuts after) (sym e ∙ is) p
-
-  pub is_unplanned : b ≡ false → ShortestPromised marks sets sizes (record { blocks = 0; bytes = 0 }) cuts cuts
-  is_unplanned e =
-      subst (λ (t : Bool). Answered t (marked_rows marks sets sizes) (record { blocks = 0; bytes = 0 }) cuts cuts) (sym e ∙ is)
-      (record { blocks = refl; bytes = refl; kept = refl })
-
-pub ruleset promise_needs = (is_marked, is_ready, is_planned, is_unplanned)
+pub ruleset promise_needs = (is_marked, is_ready)
 
 -- ---- the lists
 

@@ -69,18 +69,6 @@ pub record Begun (marks sets sizes before : List ℕ) (at blocks bytes : ℕ) (c
   pub wanted : (ls : List ℕ) → MarkedWanted (drop at (marked_rows marks sets sizes)) ls → MarkedWanted (marked_rows marks sets sizes) (take blocks cuts ++ ls)
   pub costs : (ls : List ℕ) → bytes + cost marked_bytes ls (drop at (marked_rows marks sets sizes)) ≡ cost marked_bytes (take blocks cuts ++ ls) (marked_rows marks sets sizes)
 
--- No stretch is cut yet.
-pub none_begun : (marks sets sizes cuts : List ℕ) → Begun marks sets sizes cuts 0 0 0 cuts
-none_begun marks sets sizes cuts = record {
-  within = omega arith;
-  few = omega arith;
-  low = omega arith;
-  same = refl;
-  kept = refl;
-  wanted = λ ls w. w;
-  costs = λ ls. omega arith;
-}
-
 -- The lent part of a list comes back.
 come_back : (l part : List ℕ) (n : ℕ) → take n l ++ (part ++ drop (length l - n) (drop n l)) ≡ take n l ++ part
 come_back l part n =
@@ -174,9 +162,6 @@ module _ (marks sets sizes before : List ℕ) (at blocks bytes : ℕ) (cuts : Li
         let one = block_limited (part sets at to) (part sizes at to) Part-low part_ready.sum part_ready.few in
         omega (arith, p.bytes, one, cheap (part_rows sets sizes at to) (take plan.blocks after) (omega (arith, rows_some, s.some)) p.wanted)
 
-    pub blocks_fit : Fits w64 (blocks + plan.blocks)
-    blocks_fit = record { fits = omega (arith, blocks_few, b.few, s.within, ready.few) }
-
     pub bytes_fit : Fits w64 (bytes + plan.bytes)
     bytes_fit = record { fits = omega (arith, bytes_low, b.low, b.within, ready.few) }
 
@@ -250,4 +235,4 @@ all_planned marks sets sizes before at blocks bytes cuts e h ready b =
       kept = b.kept;
     }
 
-pub ruleset stretch_needs = (none_begun, part_ready, blocks_fit, begun_more, all_planned)
+pub ruleset stretch_needs = (part_ready, begun_more, all_planned)

@@ -36,10 +36,6 @@ part_few runs i f m e h = omega (arith, part_count runs i f m e, count_take_le (
 
 -- ---- the walk
 
--- Nothing is written yet.
-pub walk_start : (runs : List Row) (firsts out : List ℕ) → Written runs firsts out 0 (record { written = 0; skip = 0 }) out
-walk_start runs firsts out = record { same = refl; few = omega arith; kept = refl; wrote = refl }
-
 -- Where a block begins, its rows are the next number.
 rows_begin : (runs : List Row) (firsts : List ℕ) (i : ℕ) → length runs ≡ length firsts → i < length firsts
     → block_rows 0 (drop i firsts) (drop i runs) ≡ row_count (take (get_or firsts i 0) (drop i runs)) ∷ block_rows (pred (get_or firsts i 0)) (drop (suc i) firsts) (drop (suc i) runs)
@@ -90,10 +86,6 @@ pub walk_end : (runs : List Row) (firsts out₀ out : List ℕ) (i : ℕ) (w : W
 unfolding block_rows
 walk_end runs firsts out₀ out i w h v = sym (append-nil (take w.written out)) ∙ (rw (drop_of_length-le firsts) at v.wrote)
 
--- There are no more blocks than runs.
-pub walk_few : (runs : List Row) (firsts out₀ out : List ℕ) (i : ℕ) (w : Walk) → i ≤ length firsts → Written runs firsts out₀ i w out → w.written ≤ length firsts
-walk_few runs firsts out₀ out i w h v = omega (arith, v.few)
-
 -- As the code has it: f runs were read, and they have r rows.
 pub walk_takes : (runs : List Row) (firsts out₀ out : List ℕ) (i : ℕ) (v : Walk) (f m r s : ℕ) → Walkable runs firsts out → i < length firsts → v.skip ≡ 0 → f ≡ get_or firsts i 0
     → m ≡ min (length runs) (i + f) → r ≡ sum_by (λ (x : Row). x.count) (take (m - i) (drop i runs)) → s ≡ f - 1
@@ -106,10 +98,4 @@ pub walk_passes : (runs : List Row) (firsts out₀ out : List ℕ) (i : ℕ) (v 
     → Written runs firsts out₀ i v out → Written runs firsts out₀ (i + 1) (record { written = v.written; skip = v.skip - 1 }) out
 walk_passes runs firsts out₀ out i v l h z r = walk_inside runs firsts out₀ out i v.written v.skip r h l z
 
--- The room stays.
-pub walk_keeps : (runs : List Row) (firsts out₀ out : List ℕ) (i : ℕ) (w : Walk) → Walkable runs firsts out₀ → Written runs firsts out₀ i w out → Walkable runs firsts out
-walk_keeps runs firsts out₀ out i w l v = record { same = l.same; room = omega (arith, l.room, v.same); few = l.few }
-
 pub ruleset walk_needs = (part_few, walk_takes, walk_passes)
-
-pub ruleset write_needs = (walk_start, walk_end, walk_few, walk_keeps)

@@ -43,9 +43,6 @@ module _ (m : ℕ) (s : List ℕ) (i : ℕ) (inv : up_to m s ≡ i + up_to m (dr
   pub up_to_here : i < length s → get_or s i 0 ≡ m → i ≡ up_to m s
   up_to_here h q = let e : up_to m (drop i s) ≡ 0 = rw (drop-cons s i 0, eq-eqb _ _ q) in omega arith
 
-  pub up_to_end : length s ≤ i → i ≡ up_to m s
-  up_to_end h = let e : up_to m (drop i s) ≡ 0 = rw drop_of_length-le in omega arith
-
 -- The same j bytes further on.
 pub up_to_step : (m : ℕ) (s : List ℕ) (i j : ℕ) → up_to m s ≡ (i + j) + up_to m (drop (i + j) s) → i + j < length s → (get_or s (i + j) 0 ≡ m → ⊥)
     → up_to m s ≡ (i + (j + 1)) + up_to m (drop (i + (j + 1)) s)

@@ -15,7 +15,7 @@ use mir.Val.{SFits}
 use borrow.Author.Tests.{eqb-true, eq-eqb, ne_eqb, leb-true, ltb-true, ltb-false, lt-ltb, le-ltb}
 use Rattle.std.specs.List.{position, position_or_len}
 use Rattle.std.specs.Option.{option_copied, unwrap_or}
-use Rattle.std.specs.Prelude.{Ok, Option, Some, None, cond}
+use Rattle.std.specs.Prelude.{Option, Some, None, cond}
 use Rattle.std.proofs.lemmas.Bool.Decides.{nat_tests}
 use Rattle.text.specs.Class.{is_digit}
 use Rattle.text.specs.Digits.{after, number}
@@ -26,7 +26,7 @@ use Rattle.value.proofs.Signs.{difference_fits}
 use Rattle.value.specs.Decimal.{is_decimal, places}
 use Rattle.value.specs.Numeral.{is_digits}
 use Rattle.value.specs.Sign.{is_minus, is_signed, bare, with_sign}
-use Rattle.value.specs.Covariance.{is_mark, before_mark, mantissa, exponent, marked_exponent, is_exponent, is_scaled, size, power, scaled_as, covariance}
+use Rattle.value.specs.Covariance.{is_mark, before_mark, mantissa, exponent, marked_exponent, is_exponent, is_scaled, power, scaled_as}
 use Rattle.value.specs.declared.Value.TheVariants.{Scaled}
 
 -- A byte before them makes a place one more, and the length too.
@@ -61,12 +61,15 @@ module _ (s : List ℕ) where
       (omega (arith, ltb-true first (length s) q, here), sym is ∙ sym here))
       (λ q. let none : ◌≡◌ {A = Option ℕ} (Some i) None = rw q at e in cc)
 
-  pub mark_none : None ≡ position is_mark s → before_mark s ≡ length s
+  mark_none : None ≡ position is_mark s → before_mark s ≡ length s
   mark_none e =
       let first = position_or_len is_mark s in
       bools (ltb first (length s))
       (λ q. let some : ◌≡◌ {A = Option ℕ} None (Some first) = rw q at e in cc)
       (λ q. sym (rw q at (mark_is s)))
+
+  pub before_none : None ≡ position is_mark s → s ≡ mantissa s
+  before_none e = rw (mark_none e, take_all (length s) s (omega arith))
 
   pub after_some : (i : ℕ) → Some i ≡ position is_mark s → Some (take (length s - (i + 1)) (drop (i + 1) s)) ≡ marked_exponent s
   after_some i e =
@@ -192,9 +195,3 @@ power_is s signed count l e signed_is count_is =
       fits = rw (signed_is, whole, count_is) (power_fits (is_minus (exponent s)) (number 0 (exponent s)) (places (mantissa s)) small few);
       is = rw (signed_is, whole, count_is);
     }
-
--- The value of a text that passed its check, from the text less its sign.
-pub covariance_is : (text rest : List ℕ) → rest ≡ bare true text → ltb 20 (length rest) ≡ false → is_scaled rest ≡ true
-    → covariance text ≡ Ok (scaled_as (is_minus text) (number 0 (mantissa rest)) (power rest))
-unfolding covariance size
-covariance_is text rest e narrow form = rw (← e, narrow, form)

@@ -15,8 +15,5 @@ difference_fits a b h k = bools (ltb a b) (λ e. rw e (record { sfits = omega ar
 
 -- A difference of two whole numbers.
 module _ (a k : ℕ) (h : a ≤ 1000000000000000000) (j : suc k ≤ 1000000000000000000) where
-  pub less_fits : SFits w64 (to_z w64 a -ℤ pos (suc k))
-  less_fits = rw (to_z_pos w64 {n = a} (omega arith)) (difference_fits a (suc k) h j)
-
   pub less_is : to_z w64 (of_z w64 (to_z w64 a -ℤ pos (suc k))) ≡ sub_ℕ a (suc k)
   less_is = rw (to_z_pos w64 {n = a} (omega arith)) (to_z-of_z (difference_fits a (suc k) h j))

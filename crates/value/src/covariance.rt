@@ -21,6 +21,7 @@ const WIDTH: usize = 20;
 const PART_BASE: u64 = 10000000000;
 
 // A text as a covariance.
+#[tactic(auto, unfolding(crate::specs::Covariance::covariance, crate::specs::Covariance::size))]
 pub fn covariance(text: &[u8]) -> Result<Value, Kind>
     ensures { result ≡ covariance text.now }
 {
@@ -64,6 +65,7 @@ fn is_exponent(text: &[u8]) -> bool
 }
 
 // What stands before the first `e` or `E` of a text, and what stands after it, where there is one.
+#[tactic(auto, using(crate::proofs::Scaled::mark_some, crate::proofs::Scaled::before_none, crate::proofs::Scaled::after_some, crate::proofs::Scaled::after_none))]
 fn halves(text: &[u8]) -> (&[u8], Option<&[u8]>)
     ensures before { result.0.now ≡ mantissa text.now }
     ensures after { option_copied result.1 ≡ marked_exponent text.now }
@@ -82,6 +84,7 @@ fn mark(text: &[u8]) -> Option<usize>
 }
 
 // The power of ten of a covariance without sign.
+#[tactic(auto, using(text::proofs::Numbers::number_small, text::proofs::Parts::take_below))]
 fn power(text: &[u8]) -> i64
     requires { (length text.now ≤ 20) × (is_scaled text.now ≡ true) }
     ensures { result ≡ power text.now }
@@ -93,6 +96,7 @@ fn power(text: &[u8]) -> i64
 }
 
 // The whole number that the digits of a text of at most 20 bytes make, in two parts, with the sign before it and its power of ten.
+#[tactic(auto, using(text::proofs::Classes::digit_range, crate::proofs::Scaled::parts_none, crate::proofs::Scaled::parts_room))]
 fn in_parts(minus: bool, text: &[u8], power: i64) -> Value
     requires { length text.now ≤ 20 }
     ensures { result ≡ scaled_as minus (number 0 text.now) power }

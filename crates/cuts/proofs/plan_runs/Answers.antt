@@ -1,7 +1,7 @@
 -- `cuts::plan_runs` meets its contract.
 use Rattle.std.proofs.Common.{rules}
-use Rattle.cuts.proofs.PlanLaws.{plan_needs}
+use Rattle.cuts.proofs.PlanLaws.{planned_runs}
 use Rattle.cuts.proofs.plan_runs.Goals as goal
 
 pub returns : goal.returns
-returns c = search (rules, plan_needs)
+returns c = search (rules, planned_runs)

@@ -1,7 +1,6 @@
 -- `value::covariance::power` meets its contract.
 use Prim.Native.Nat.{ℕ}
 use lib.IntN.{pos}
-use lib.ListN.{take}
 use denote.Ref.{Bor}
 use mathlib.Core.List.{List}
 use mathlib.Core.Path.{◌∙◌, ◌≡◌, ap, refl}
@@ -9,8 +8,6 @@ use mir.Facts.{to_z-of_z, to_z_pos}
 use mir.Syntax.{w64}
 use mir.Val.{of_z, to_z}
 use native.Mathlib.Omega.{arith}
-use Rattle.text.proofs.Numbers.{number_small}
-use Rattle.text.proofs.Parts.{take_below}
 use Rattle.value.proofs.Scaled.{PowerIs, power_is, exponent_is}
 use Rattle.value.specs.Decimal.{places}
 use Rattle.value.proofs.covariance.power.Goals as goal
@@ -32,9 +29,6 @@ exponent-back c = to_z-of_z {w = w64} (record { sfits = c.with_sign-signed.type_
 
 places-back : (c : After-places) → to_z w64 c.places.result ≡ pos c.places.result
 places-back c = to_z_pos w64 (omega (arith, (worked c).few))
-
-pub with_sign-signed-requires : goal.with_sign-signed-requires
-with_sign-signed-requires c = omega (arith, c.number.ensures, number_small (take 18 c.unwrap_or-exponent.result.now) 18 (take_below 18 c.unwrap_or-exponent.result.now))
 
 pub overflow_cast-result : goal.overflow_cast-result
 overflow_cast-result c = record { sfits = omega (arith, (worked (goal.at.overflow_cast-result c).After-places).few) }

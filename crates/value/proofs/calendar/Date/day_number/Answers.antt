@@ -4,7 +4,7 @@ use lib.Dec.{lit≤}
 use mathlib.Core.Path.{◌∙◌}
 use native.Mathlib.Omega.{arith}
 use Rattle.value.proofs.Days.{date_parts, month_length_small, month_small, year_small}
-use Rattle.value.proofs.Signs.{less_fits, less_is}
+use Rattle.value.proofs.Signs.{less_is}
 use Rattle.value.specs.Calendar.{day_number, is_leap}
 use Rattle.value.proofs.calendar.Date.day_number.Goals as goal
 use Rattle.value.proofs.calendar.Date.day_number.Goals.{After-month_days}
@@ -17,27 +17,6 @@ small c =
     let months = month_small c.is_leap.result (args.self.month - 1) in
     let days = month_length_small (is_leap args.self.year) args.self.month in
     omega (arith, c.year_days.ensures, years, c.month_days.ensures, months, days, parts.high_year, parts.high_month, parts.high_day)
-
-pub year_days-requires : goal.year_days-requires
-year_days-requires c = let parts = date_parts c.args.self.year c.args.self.month c.args.self.day c.requires in (parts.low_year, parts.high_year)
-
-pub month_days-requires : goal.month_days-requires
-month_days-requires c = let parts = date_parts c.args.self.year c.args.self.month c.args.self.day c.requires in (parts.low_month, parts.high_month)
-
-pub overflow_add-days : goal.overflow_add-days
-overflow_add-days c = omega (arith, small (goal.at.overflow_add-days c).After-month_days)
-
-pub overflow_add-days-2 : goal.overflow_add-days-2
-overflow_add-days-2 c = omega (arith, small (goal.at.overflow_add-days-2 c).After-month_days)
-
-pub overflow_cast-result : goal.overflow_cast-result
-overflow_cast-result c = record { sfits = omega (arith, small (goal.at.overflow_cast-result c).After-month_days) }
-
-pub overflow_sub-result : goal.overflow_sub-result
-overflow_sub-result c =
-    let year-days = c.year_days in
-    let args = c.args in
-    less_fits (year-days.result + c.month_days.result + args.self.day) 678941 (omega (arith, small (goal.at.overflow_sub-result c).After-month_days)) (lit≤ tt)
 
 pub returns : goal.returns
 unfolding day_number
