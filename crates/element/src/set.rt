@@ -1,7 +1,7 @@
 // Sets of elements: bit e stands for index e.
 ghost use Rattle.std.specs.Prelude.{◌≡◌, ◌≤◌, ◌<◌};
 ghost use Rattle.std.specs.Int.Count.{ones};
-ghost use Rattle.element.specs.Set.{has, joined, length_if, bytes_in, name_bytes};
+ghost use Rattle.element.specs.Set.{has, length_if, bytes_in, name_bytes};
 
 use crate::ELEMENTS;
 use crate::name::length_at;
@@ -21,14 +21,6 @@ pub fn count(set: u64) -> u64
     ensures { (result ≡ ones set) × (result ≤ 64) }
 {
     u64::from(set.count_ones())
-}
-
-// The set of the elements that are in one of the sets at least.
-#[tactic(auto, unfolding(crate::specs::Set::joined))]
-pub fn join(sets: &[u64]) -> u64
-    ensures { result ≡ joined 0 sets.now }
-{
-    sets.iter().fold(0, |all, set| all | *set)
 }
 
 // The bytes of the names of the set's elements. It goes from one element of the set to the next by the set's bits, and not over all elements:
