@@ -216,7 +216,7 @@ fn print_fault(
 // Prints a refusal in its fixed line, and marks its kind as told.
 fn print_refusal(rt: &impl Print, refusal: Refusal, told: &mut [bool]) -> io::Result<()> {
     print::refusal_line(rt, refusal)?;
-    if let Some(told) = told.get_mut(refusal.kind as usize) {
+    if let Some(told) = told.get_mut(refusals::index_of(refusal.kind)) {
         *told = true;
     }
     Ok(())

@@ -1,4 +1,6 @@
 // The refusals in words.
+ghost use Rattle.std.specs.Prelude.{◌<◌};
+
 use crate::kinds;
 use element::ELEMENTS;
 use refusal::Kind;
@@ -217,9 +219,16 @@ static WORDS: [Words; KINDS] = [
     },
 ];
 
+// Where a kind stands in the order of their numbers, counted from 0.
+pub(crate) fn index_of(kind: Kind) -> usize
+    ensures { result < 24 }
+{
+    kind as usize - 1
+}
+
 // What is said of a kind.
 fn words_of(kind: Kind) -> &'static Words {
-    &WORDS[kind as usize]
+    &WORDS[index_of(kind)]
 }
 
 // The kind of a number, if there is one.

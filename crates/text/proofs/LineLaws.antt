@@ -2,7 +2,7 @@
 use Prim.Native.Nat.{ℕ, zero, suc, ◌≤◌, ◌<◌, ◌+◌, ◌-◌}
 use mathlib.Core.Path.{◌≡◌, refl, ap, sym, ◌∙◌}
 use mathlib.Core.List.{List, [], ◌∷◌, ◌++◌}
-use mathlib.Core.Bool.{Bool, true, false, cond, not, ◌&&◌, ◌||◌}
+use mathlib.Core.Bool.{Bool, true, false, cond, not, ◌&&◌}
 use lib.ListN.{length, take, drop, get_or, drop_of_length-le, length-drop, length-take, take-append-drop}
 use lib.Dec.{eqb, leb}
 use Rattle.std.proofs.Common.{get_or-drop}
@@ -12,7 +12,7 @@ use native.Mathlib.Numerals.{add-one}
 use native.Mathlib.Omega.{arith}
 use native.Mathlib.Nat.{add-zero, sub-zero, zero-sub, suc-sub-suc}
 use Rattle.text.proofs.Bools.{bools, both, neither}
-use Rattle.text.specs.Lines.{is_printable, printable, up_to, first_line, cut, line, lines, fields, into, leading_blanks, drop_lead, before, drop_trail, trim, field_from, TrimmedIs, FieldAt, ScannedIs}
+use Rattle.text.specs.Lines.{is_printable, printable, up_to, first_line, cut, line, lines, fields, into, leading_blanks, drop_lead, before, drop_trail, trim, field_from, TrimmedIs, FieldAt}
 use Rattle.text.specs.Steps.{bars_in, holds, is_tight, Scanning}
 
 pub up_to_le : (m : ℕ) (s : List ℕ) → up_to m s ≤ length s
@@ -40,14 +40,6 @@ module _ (m : ℕ) (s : List ℕ) (i : ℕ) (inv : up_to m s ≡ i + up_to m (dr
   up_to_on h n =
       let e : up_to m (drop i s) ≡ suc (up_to m (drop (i + 1) s)) = rw (add-one, drop-cons s i 0, ne_eqb _ _ n) in omega arith
 
-  pub up_to_here : i < length s → get_or s i 0 ≡ m → i ≡ up_to m s
-  up_to_here h q = let e : up_to m (drop i s) ≡ 0 = rw (drop-cons s i 0, eq-eqb _ _ q) in omega arith
-
--- The same j bytes further on.
-pub up_to_step : (m : ℕ) (s : List ℕ) (i j : ℕ) → up_to m s ≡ (i + j) + up_to m (drop (i + j) s) → i + j < length s → (get_or s (i + j) 0 ≡ m → ⊥)
-    → up_to m s ≡ (i + (j + 1)) + up_to m (drop (i + (j + 1)) s)
-up_to_step m s i j e h n = let a : i + j + 1 ≡ i + (j + 1) = omega arith in rw a at (up_to_on m s (i + j) e h n)
-
 -- Fields.
 
 -- A line's fields: up to the first bar, and those after it.
@@ -70,9 +62,6 @@ into_length : (b : ℕ) (t : List ℕ) → length (into b (fields t)) ≡ length
 into_length b t = rw (fields_first t).1
 
 -- One pass over the first line.
-
-pub scan_start : (s : List ℕ) → Scanning s true 1 0
-scan_start s = record { within = omega arith; few = omega arith; size = omega arith; all = refl; count = omega arith }
 
 and_true : (a : Bool) → a && true ≡ a
 and_true true = refl
@@ -97,13 +86,6 @@ plain_printable : (b : ℕ) → 32 ≤ b → b ≤ 123 → true ≡ is_printable
 plain_printable b low high = rw (le-leb _ _ low, le-leb b 126 (omega arith))
 
 module _ (s : List ℕ) (right : Bool) (parts i : ℕ) (v : Scanning s right parts i) where
-  pub scan_here : i < length s → get_or s i 0 ≡ 10 → ScannedIs s i right parts
-  scan_here h q =
-      let f : first_line (drop i s) ≡ [] = rw (drop-cons s i 0, eq-eqb _ _ q) in
-      let p : printable (first_line s) ≡ right && true = rw f at v.all in
-      let n : suc (length (fields (first_line s))) ≡ parts + 1 = rw f at v.count in
-      record { size_is = up_to_here 10 s i v.size h q; right_is = sym (p ∙ and_true right); parts_is = omega arith }
-
   pub scan_on : i < length s → (get_or s i 0 ≡ 10 → ⊥) → (p : Bool) → p ≡ is_printable (get_or s i 0) → (n : ℕ) → n ≡ cond (eqb (get_or s i 0) 124) 1 0
       → Scanning s (right && p) (parts + n) (i + 1)
   scan_on h q p e n g =
@@ -133,37 +115,6 @@ module _ (s : List ℕ) (right : Bool) (parts i : ℕ) (v : Scanning s right par
       rw (add-zero parts) at f
 
 -- Steps of many bytes.
-
-or_false : (a : Bool) → a || false ≡ a
-or_false true = refl
-or_false false = refl
-
-or_assoc : (a b c : Bool) → a || (b || c) ≡ (a || b) || c
-or_assoc true b c = refl
-or_assoc false b c = refl
-
-module _ (s : List ℕ) (i : ℕ) where
-  pub printable_on : (right : Bool) → printable s ≡ right && printable (drop i s) → i < length s
-      → printable s ≡ (right && is_printable (get_or s i 0)) && printable (drop (i + 1) s)
-  printable_on right e h = e ∙ rw (add-one, drop-cons s i 0) (and_assoc right (is_printable (get_or s i 0)) _)
-
-  pub printable_end : (right : Bool) → printable s ≡ right && printable (drop i s) → length s ≤ i → right ≡ printable s
-  printable_end right e h =
-      let f : printable (drop i s) ≡ true = rw drop_of_length-le in sym (e ∙ ap (λ (b : Bool). right && b) f ∙ and_true right)
-
-  pub holds_on : (m : ℕ) (any : Bool) → holds m s ≡ any || holds m (drop i s) → i < length s
-      → holds m s ≡ (any || eqb (get_or s i 0) m) || holds m (drop (i + 1) s)
-  holds_on m any e h = e ∙ rw (add-one, drop-cons s i 0) (or_assoc any (eqb (get_or s i 0) m) _)
-
-  pub holds_end : (m : ℕ) (any : Bool) → holds m s ≡ any || holds m (drop i s) → length s ≤ i → any ≡ holds m s
-  holds_end m any e h =
-      let f : holds m (drop i s) ≡ false = rw drop_of_length-le in sym (e ∙ ap (λ (b : Bool). any || b) f ∙ or_false any)
-
-  pub bars_on : i < length s → bars_in (drop i s) ≡ cond (eqb (get_or s i 0) 124) 1 0 + bars_in (drop (i + 1) s)
-  bars_on h = rw (add-one, drop-cons s i 0)
-
-  pub bars_end : length s ≤ i → bars_in (drop i s) ≡ 0
-  bars_end h = rw drop_of_length-le
 
 -- Without a bar there is none to count.
 pub bars_none : (s : List ℕ) → holds 124 s ≡ false → bars_in s ≡ 0
@@ -224,9 +175,6 @@ module _ (s : List ℕ) (f i : ℕ) (h : f ≤ length s) (k : i < length (take (
 pub record Stepping (s left : List ℕ) (parts : ℕ) : Type 0 where
   pub rest : left ≡ drop (length s - length left) s
   pub passed : Scanning s true parts (length s - length left)
-
-pub step_start : (s : List ℕ) → Stepping s s 1
-step_start s = let e : length s - length s ≡ 0 = omega arith in record { rest = rw e; passed = rw e (scan_start s) }
 
 -- A step of w printable bytes, of which n are bars.
 pub step_over : (s left step after : List ℕ) (parts w : ℕ) → Stepping s left parts → w ≤ length left → step ≡ take w left → after ≡ drop w left

@@ -2,7 +2,7 @@
 use Prim.Native.Nat.{ℕ, zero, suc, ◌+◌, ◌-◌, ◌/◌, ◌%◌, ◌^◌, ◌≤◌, ◌<◌}
 use mathlib.Core.Path.{◌≡◌, refl, sym, ap, ◌∙◌}
 use mathlib.Core.List.{List, [], ◌∷◌, ◌++◌, append_assoc, append-nil}
-use native.Mathlib.Nat.{pow-suc, sub-zero}
+use native.Mathlib.Nat.{pow-suc}
 use native.Mathlib.Numerals.{add-one}
 use native.Mathlib.Omega.{arith}
 use lib.ListN.{length, replicate, take, drop, set, get_or, length-append, length-drop, length-take, length-set, drop_of_length-le}
@@ -63,15 +63,11 @@ low_count (suc count) number = ap suc (low_count count (number / 256))
 -- Bytes are being filled with the first ones of a number, and the loop stands at i: those before i are there, and those from i
 -- on are the first bytes of what is left of the number.
 pub record Lowering (number size : ℕ) (bytes : List ℕ) (rest i : ℕ) : Type 0 where
-  pub within : i ≤ size
   pub sized : length bytes ≡ size
   pub written : take i bytes ≡ take i (low_bytes size number)
   pub left : drop i (low_bytes size number) ≡ low_bytes (size - i) rest
 
 module _ (number size : ℕ) where
-  pub low_start : (bytes : List ℕ) → length bytes ≡ size → Lowering number size bytes number 0
-  low_start bytes e = record { within = omega arith; sized = e; written = refl; left = rw sub-zero }
-
   module _ (bytes : List ℕ) (rest i : ℕ) (v : Lowering number size bytes rest i) where
     -- One byte more.
     pub low_on : i < size → Lowering number size (set bytes i (rest % 256)) (rest / 256) (i + 1)
@@ -84,7 +80,6 @@ module _ (number size : ℕ) where
         sym (drop-cons all i 0 (omega arith)) ∙ (rw more at v.left) in
         let byte : get_or all i 0 ≡ rest % 256 = cc in
         record {
-          within = omega arith;
           sized = length-set bytes i (rest % 256) ∙ v.sized;
           written = rw (add-one, take-suc-set bytes i (rest % 256) (omega (arith, v.sized)), take-suc all i 0 (omega arith), v.written, byte);
           left = ap (λ (k : ℕ). drop k all) (add-one i) ∙ cc;

@@ -4,9 +4,8 @@ use mathlib.Core.Path.{◌≡◌, ◌∙◌, refl}
 use mathlib.Core.Bool.{Bool, true, false}
 use mathlib.Core.List.{List, [], ◌∷◌}
 use native.Mathlib.Nat.{not-suc-le-zero, le_of_suc-le-suc}
-use native.Mathlib.Omega.{arith}
 use lib.Dec.{eqb}
-use lib.ListN.{length, take, length-take}
+use lib.ListN.{length, take}
 use borrow.Author.Tests.{eqb-true, eq-eqb}
 use Rattle.std.specs.List.{list_all, zip}
 use Rattle.text.specs.Part.{same, matches, starts}
@@ -17,10 +16,6 @@ pub take_below : (n : ℕ) (s : List ℕ) → length (take n s) ≤ n
 take_below zero s = zero-le
 take_below (suc n) [] = zero-le
 take_below (suc n) (x ∷ s) = suc-le-suc (take_below n s)
-
--- Nor are more than n of the first n.
-pub take_take_below : (m n : ℕ) (s : List ℕ) → length (take m (take n s)) ≤ n
-take_take_below m n s = omega (arith, length-take m (take n s), take_below n s)
 
 -- A text is the same as itself.
 pub same_refl : (s : List ℕ) → same s s ≡ true

@@ -1,9 +1,6 @@
 // Cases on packing: M asks the length, W writes by the cuts that its second text spells, P does both.
-use pack::{Measured, Written};
 use std::io;
-use text::list;
-use text::output::low;
-use text::part::{front, tail};
+use text::part::{at, front};
 use words::print;
 
 // The most bytes that an output is lent with, and some past them.
@@ -21,16 +18,19 @@ pub(crate) fn answer(
     report: &[u8],
     spelt: &[u8],
 ) -> io::Result<()> {
-    if letter == b'M' {
-        let mut list = [0u16; LARGEST_LIST];
-        measure_case(rt, report, first, (second % 65536) as u16, &mut list)?;
+    let filling = (second % 256) as u8;
+    match letter {
+        b'M' => measure_alone(rt, report, first, (second % 65536) as u16),
+        b'W' => write_spelt(rt, report, spelt, first, filling),
+        b'P' => pack_case(rt, report, first, filling),
+        _ => Ok(()),
     }
-    if letter == b'W' {
-        write_spelt(rt, report, spelt, first, (second % 256) as u8)?;
-    }
-    if letter == b'P' {
-        pack_case(rt, report, first, (second % 256) as u8)?;
-    }
+}
+
+// Asks the length with so many numbers of a list that is filled with a number.
+fn measure_alone(rt: &impl Print, report: &[u8], room: usize, filling: u16) -> io::Result<()> {
+    let mut list = [0u16; LARGEST_LIST];
+    measure_case(rt, report, room, filling, &mut list)?;
     Ok(())
 }
 
@@ -38,7 +38,7 @@ pub(crate) fn answer(
 fn pack_case(rt: &impl Print, report: &[u8], room: usize, filling: u8) -> io::Result<()> {
     let mut cuts = [0u16; LARGEST_LIST];
     let blocks = measure_case(rt, report, LARGEST_LIST, 0, &mut cuts)?;
-    write_case(rt, report, list::front(&cuts, blocks), room, filling)
+    write_case(rt, report, front(&cuts, blocks), room, filling)
 }
 
 // Writes a report by the cuts that a text spells into so many bytes of an output that is filled with a byte.
@@ -51,21 +51,13 @@ fn write_spelt(
 ) -> io::Result<()> {
     let mut cuts = [0u16; LARGEST_LIST];
     fill_spelt(spelt, &mut cuts);
-    write_case(
-        rt,
-        report,
-        list::front(&cuts, spelt.len() / 2),
-        room,
-        filling,
-    )
+    write_case(rt, report, front(&cuts, spelt.len() / 2), room, filling)
 }
 
 // Puts the numbers that a text spells into a list, two bytes each, low byte first.
 fn fill_spelt(text: &[u8], list: &mut [u16]) {
-    let mut k: usize = 0;
-    while k < list.len() {
-        list[k] = (low(tail(text, 2 * k), 2) % 65536) as u16;
-        k += 1;
+    for (number, bytes) in list.iter_mut().zip(text.chunks(2)) {
+        *number = u16::from_le_bytes([at(bytes, 0), at(bytes, 1)]);
     }
 }
 
@@ -78,9 +70,10 @@ fn measure_case(
     filling: u16,
     list: &mut [u16],
 ) -> io::Result<usize> {
-    fill_list(list, filling);
+    list.fill(filling);
     let given = measure_into(rt, report, room, list)?;
-    print_rest(rt, is_list_filled(list, given, filling))?;
+    let kept = list.iter().skip(given).all(|number| *number == filling);
+    print_rest(rt, kept)?;
     Ok(given)
 }
 
@@ -95,16 +88,16 @@ fn measure_into(
         return Ok(0);
     }
     match pack::measure(report, &mut list[..room]) {
-        Measured::Shortest(length, blocks) => {
-            print::between(rt, b"measured ", length as u64, b" blocks ")?;
-            print::between(rt, b"", blocks as u64, b"\n")?;
+        Ok(measured) => {
+            let blocks = measured.blocks;
+            println!(rt; "measured {} blocks {blocks}", measured.length)?;
             if room < blocks {
                 return Ok(0);
             }
-            print_cuts(rt, list::front(list, blocks))?;
+            print_cuts(rt, front(list, blocks))?;
             Ok(blocks)
         }
-        Measured::Refused(refusal) => {
+        Err(refusal) => {
             print::refusal_line(rt, refusal)?;
             Ok(0)
         }
@@ -113,11 +106,9 @@ fn measure_into(
 
 // Prints `cuts` and the cuts.
 fn print_cuts(rt: &impl Print, cuts: &[u16]) -> io::Result<()> {
-    let mut k: usize = 0;
-    print::bytes(rt, b"cuts")?;
-    while k < cuts.len() {
-        print::short_between(rt, b" ", cuts[k], b"")?;
-        k += 1;
+    print!(rt; "cuts")?;
+    for cut in cuts {
+        print!(rt; " {cut}")?;
     }
     print::line_end(rt)
 }
@@ -132,13 +123,14 @@ fn write_case(
     filling: u8,
 ) -> io::Result<()> {
     let mut output = [0u8; LARGEST_OUTPUT];
-    fill(&mut output, filling);
+    output.fill(filling);
     let length = write_into(rt, report, cuts, room, &mut output)?;
     print::bytes(rt, front(&output, length))?;
-    print_rest(rt, is_filled(tail(&output, length), filling))
+    let kept = output.iter().skip(length).all(|byte| *byte == filling);
+    print_rest(rt, kept)
 }
 
-// Writes a report by cuts into so many bytes of an output and prints the answer; the length of the packed report, or 0.
+// Writes a report by cuts into so many bytes of an output and prints the answer; says how many bytes were written.
 fn write_into(
     rt: &impl Print,
     report: &[u8],
@@ -150,11 +142,11 @@ fn write_into(
         return Ok(0);
     }
     match pack::write(report, cuts, &mut output[..room]) {
-        Written::Length(length) => {
-            print::between(rt, b"packed ", length as u64, b"\n")?;
+        Ok(length) => {
+            println!(rt; "packed {length}")?;
             Ok(length)
         }
-        Written::Refused(refusal) => {
+        Err(refusal) => {
             print::refusal_line(rt, refusal)?;
             Ok(0)
         }
@@ -163,53 +155,6 @@ fn write_into(
 
 // Prints whether the rest of what was lent stayed.
 fn print_rest(rt: &impl Print, stayed: bool) -> io::Result<()> {
-    if stayed {
-        print::bytes(rt, b"rest kept\n")
-    } else {
-        print::bytes(rt, b"rest changed\n")
-    }
-}
-
-// Fills an output with a byte.
-fn fill(output: &mut [u8], filling: u8) {
-    let mut i: usize = 0;
-    while i < output.len() {
-        output[i] = filling;
-        i += 1;
-    }
-}
-
-// Whether a text is filled with a byte.
-fn is_filled(text: &[u8], filling: u8) -> bool {
-    let mut i: usize = 0;
-    while i < text.len() {
-        if text[i] == filling {
-            i += 1;
-        } else {
-            return false;
-        }
-    }
-    true
-}
-
-// Fills a list with a number.
-fn fill_list(list: &mut [u16], filling: u16) {
-    let mut i: usize = 0;
-    while i < list.len() {
-        list[i] = filling;
-        i += 1;
-    }
-}
-
-// Whether a list is filled with a number from a place on.
-fn is_list_filled(list: &[u16], from: usize, filling: u16) -> bool {
-    let mut i = from;
-    while i < list.len() {
-        if list[i] == filling {
-            i += 1;
-        } else {
-            return false;
-        }
-    }
-    true
+    let rest = if stayed { "kept" } else { "changed" };
+    println!(rt; "rest {rest}")
 }

@@ -1,13 +1,9 @@
 -- `text::digits::number_of` meets its contract. The invariant: what is left, put after the number so far, makes the number of the text; it has no more digits than bytes passed.
-use Prim.Native.Nat.{zero-le}
 use lib.ListN.{get_or}
-use mathlib.Core.Path.{◌∙◌, refl, sym}
+use mathlib.Core.Path.{◌∙◌, sym}
 use native.Mathlib.Omega.{arith}
 use Rattle.text.proofs.Numbers.{after_below, number_end, number_step, pow_below}
 use Rattle.text.proofs.digits.number_of.Goals as goal
-
-pub loop-byte-init : goal.loop-byte-init
-loop-byte-init c = (zero-le, omega arith, refl)
 
 pub after-n-requires : goal.after-n-requires
 after-n-requires c = omega (arith, pow_below c.loop-byte.byte-index 18 (omega arith))

@@ -1,10 +1,7 @@
 -- `text::lines::scan` meets its contract.
 use mathlib.Core.Path.{◌∙◌, sym}
-use Rattle.text.proofs.LineLaws.{step_start, step_over}
+use Rattle.text.proofs.LineLaws.{step_over}
 use Rattle.text.proofs.lines.scan.Goals as goal
-
-pub loop-step-init : goal.loop-step-init
-loop-step-init c = step_start _
 
 pub loop-step-preserved : goal.loop-step-preserved
 loop-step-preserved c =

@@ -1,10 +1,6 @@
 -- `text::output::fill_low` meets its contract.
-use Rattle.std.proofs.Common.{refl}
-use Rattle.text.proofs.Outputs.{low_start, low_on, low_end}
+use Rattle.text.proofs.Outputs.{low_on, low_end}
 use Rattle.text.proofs.output.fill_low.Goals as goal
-
-pub loop-byte-init : goal.loop-byte-init
-loop-byte-init c = low_start _ _ _ refl
 
 pub loop-byte-preserved : goal.loop-byte-preserved
 loop-byte-preserved c = low_on _ _ _ _ _ c.loop-byte.invariant c.loop-byte-test.true
