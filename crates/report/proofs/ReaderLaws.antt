@@ -1,12 +1,12 @@
 -- Laws of the reader: what is left of a text comes to the same, after each line and at the end.
-use Prim.Native.Nat.{ℕ, suc, ◌≤◌, ◌<◌, ◌+◌, ◌-◌, ◌*◌}
+use Prim.Native.Nat.{ℕ, suc, ◌≤◌, ◌<◌, ◌+◌, ◌-◌}
 use mathlib.Core.Path.{◌≡◌, refl, ap, sym, ◌∙◌}
 use mathlib.Core.List.{List, [], ◌∷◌, ◌++◌, append_assoc, append-nil}
 use mathlib.Core.Bool.{Bool, false}
 use lib.Dec.{eqb, ltb, leb}
 use lib.ListN.{length, take, drop, get_or, set, length-set, length-drop, length-take, length-append, drop_of_length-le, get_or-append}
 use lib.Seq.{drop-drop, get_or-append-add, get_or-set_same, get_or-set_other}
-use borrow.Author.Tests.{le-ltb, lt-ltb, le-leb, leb-true, ltb-true, ltb-false, eqb-true, eqb-false}
+use borrow.Author.Tests.{le-ltb, lt-ltb, le-leb, leb-true, eqb-true, eqb-false}
 use native.Mathlib.Omega.{arith}
 use native.Mathlib.Numerals.{add-one}
 use Rattle.std.specs.Prelude.{Option, Some, None, Result, Ok, Err}
@@ -150,6 +150,12 @@ pub record Reading (t columns : List ℕ) (first room : ℕ) (rows : List Row) (
   pub noted : (i : ℕ) → i < room → first + i < k → Noted t (row_at rows i) (get_or observations (first + i) []) (get_or spots (first + i) [])
   pub rest : read_from begin 1 0 (lines t) ≡ prefix observations (read_from (state_of s columns) number k (lines (drop at t)))
   pub left : starts_from begin 0 0 (lines t) ≡ spots ++ starts_from (state_of s columns) at k (lines (drop at t))
+
+-- The state where a text begins.
+pub begun : (s : CodeState) → (s.need ≡ Need.Version) × ((s.columns ≡ 0) × (s.radar ≡ false)) → s ≡ record { need = Need.Version; columns = 0; radar = false }
+begun s h =
+    ap (λ (n : Need). record { need = n; columns = s.columns; radar = s.radar }) h.0
+    ∙ (ap (λ (c : ℕ). record { need = Need.Version; columns = c; radar = s.radar }) h.1.0 ∙ ap (λ (r : Bool). record { need = Need.Version; columns = 0; radar = r }) h.1.1)
 
 pub read_start : {t columns : List ℕ} {first room : ℕ} {rows : List Row} → length columns ≡ elements → length t ≤ text_limit → room < length rows
     → Reading t columns first room rows 0 1 0 (record { need = Need.Version; columns = 0; radar = false })

@@ -148,6 +148,12 @@ blank_at zero e = refl
 blank_at (suc n) zero = refl
 blank_at (suc n) (suc e) = blank_at n e
 
+-- The marks where no value was passed.
+pub none_yet : (m : Marks) → (m.present ≡ 0) × ((m.wgs84 ≡ false) × (m.earth ≡ false)) → m ≡ record { present = 0; wgs84 = false; earth = false }
+none_yet m h =
+    ap (λ (p : ℕ). record { present = p; wgs84 = m.wgs84; earth = m.earth }) h.0
+    ∙ (ap (λ (w : Bool). record { present = 0; wgs84 = w; earth = m.earth }) h.1.0 ∙ ap (λ (e : Bool). record { present = 0; wgs84 = false; earth = e }) h.1.1)
+
 blank_marks : (m : Marks) → m ≡ record { present = 0; wgs84 = false; earth = false } → m ≡ marks_of (replicate elements [])
 unfolding is_wgs84 is_earth same set_of
 blank_marks m e = e

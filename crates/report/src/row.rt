@@ -11,7 +11,7 @@ use element::observation::{is_radar, observation_fault};
 use refusal::{Fault, Kind};
 
 // What the values passed so far tell of their observation: the set of present elements, whether sys is WGS84, whether ctr is 399.
-#[derive(Clone, Copy)]
+#[derive(Clone, Copy, Default)]
 pub struct Marks {
     pub present: u64,
     pub wgs84: bool,
@@ -70,11 +70,7 @@ fn take_fields(report: &[u8], line: Line, columns: &[u8], row: &mut Row) -> Resu
     ensures { FieldsAre report.now columns.now row.new line.from line.till result }
 {
     let text = &report[line.from..line.till];
-    let mut marks = Marks {
-        present: 0,
-        wgs84: false,
-        earth: false,
-    };
+    let mut marks = Marks::default();
     let mut at: usize = 0;
     for (k, column) in columns.iter().enumerate() {
         let field = text::lines::field_at(text, at);

@@ -32,4 +32,4 @@ loop-k-preserved c =
     name_on c.loop-k.invariant c.loop-k-test.true c.field_at-field.ensures c.requires.2 c.index_from.ensures c.in-Some.is other
 
 pub returns : goal.returns
-returns c = name_named c.loop-k.invariant (omega (arith, c.loop-k.auto.k-end, c.loop-k-test.false))
+returns c = rw c.default.ensures.1.1 (name_named c.loop-k.invariant (omega (arith, c.loop-k.auto.k-end, c.loop-k-test.false)))

@@ -3,7 +3,7 @@ use native.Mathlib.Omega.{arith}
 use Rattle.std.proofs.Common.{Err}
 use Rattle.std.proofs.lemmas.Result.{err_from_is_err_and}
 use Rattle.report.specs.Inner.{NextLine}
-use Rattle.report.proofs.ReaderLaws.{read_start, read_long, read_ends, read_cut, line_asks, read_bad, read_next, read_row, line_of, end_of, cut_of}
+use Rattle.report.proofs.ReaderLaws.{begun, read_start, read_long, read_ends, read_cut, line_asks, read_bad, read_next, read_row, line_of, end_of, cut_of}
 use Rattle.report.proofs.reader.read.Goals as goal
 use Rattle.report.proofs.reader.read.Goals.{In-Some}
 
@@ -15,7 +15,7 @@ pub returns-then-report-gt-TEXT_LIMIT : goal.returns-then-report-gt-TEXT_LIMIT
 returns-then-report-gt-TEXT_LIMIT c = read_long c.if-report-gt-TEXT_LIMIT.true (ap Err c.of_request.ensures)
 
 pub loop-line-init : goal.loop-line-init
-loop-line-init c = read_start refl c.if-report-gt-TEXT_LIMIT.false c.requires
+loop-line-init c = rw (begun c.default-state.result c.default-state.ensures) (read_start refl c.if-report-gt-TEXT_LIMIT.false c.requires)
 
 pub returns-in_err-line : goal.returns-in_err-line
 returns-in_err-line c =

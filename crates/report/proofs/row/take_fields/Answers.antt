@@ -1,11 +1,11 @@
 use Rattle.std.proofs.Common.{rules}
-use mathlib.Core.Path.{refl, sym, ◌∙◌}
+use mathlib.Core.Path.{sym, ◌∙◌}
 use native.Mathlib.Omega.{arith}
-use Rattle.report.proofs.RowLaws.{fill_start, field_bad, fields_on, fields_end}
+use Rattle.report.proofs.RowLaws.{none_yet, fill_start, field_bad, fields_on, fields_end}
 use Rattle.report.proofs.row.take_fields.Goals as goal
 
 pub loop-k-init : goal.loop-k-init
-loop-k-init c = fill_start _ _ _ _ _ _ (sym c.requires.lies.parts_are) (search rules) (search rules) refl
+loop-k-init c = fill_start _ _ _ _ _ _ (sym c.requires.lies.parts_are) (search rules) (search rules) (none_yet c.default-marks.result c.default-marks.ensures)
 
 pub returns-in-Err : goal.returns-in-Err
 returns-in-Err c =
