@@ -1,6 +1,6 @@
 -- Laws of times: their digits by twos, and how large the fraction of a second is.
 use Prim.Native.Nat.{ℕ, zero, suc, ◌+◌, ◌-◌, ◌*◌, ◌≤◌, ◌<◌}
-use mathlib.Core.Path.{◌≡◌, ap, ◌∙◌}
+use mathlib.Core.Path.{◌≡◌, refl, ap, ◌∙◌}
 use mathlib.Core.Bool.{true}
 use mathlib.Core.List.{List, [], ◌∷◌}
 use native.Mathlib.Nat.{le_trans, le_of_lt, mul-le-mul_left, mul-le-mul_right}
@@ -37,7 +37,7 @@ starts_at (p ∷ shape) (b ∷ s) (suc i) e h =
     let r = starts_at shape s i (both (matches p b) (starts shape s) e).1 (omega arith) in (omega (arith, r.0), r.1)
 
 -- Where the form of a time has two digits, there they are.
-pub time_two : (s : List ℕ) (from : ℕ) → is_time s ≡ true → from + 1 < 19
+time_two : (s : List ℕ) (from : ℕ) → is_time s ≡ true → from + 1 < 19
     → get_or (bytes "dddd-dd-ddTdd:dd:dd") from 0 ≡ 100 → get_or (bytes "dddd-dd-ddTdd:dd:dd") (from + 1) 0 ≡ 100 → TwoDigits s from
 unfolding is_time
 time_two s from e h p q =
@@ -46,6 +46,26 @@ time_two s from e h p q =
     let a = starts_at shape s from t (omega arith) in
     let b = starts_at shape s (from + 1) t (omega arith) in
     record { inside = b.0; tens = rw p at a.1; ones = rw q at b.1 }
+
+pub record TimeDigits (s : List ℕ) : Type 0 where
+  pub century : TwoDigits s 0
+  pub year : TwoDigits s 2
+  pub month : TwoDigits s 5
+  pub day : TwoDigits s 8
+  pub hour : TwoDigits s 11
+  pub minute : TwoDigits s 14
+  pub second : TwoDigits s 17
+
+pub time_digits : (s : List ℕ) → is_time s ≡ true → TimeDigits s
+time_digits s e = record {
+  century = time_two s 0 e (omega arith) refl refl;
+  year = time_two s 2 e (omega arith) refl refl;
+  month = time_two s 5 e (omega arith) refl refl;
+  day = time_two s 8 e (omega arith) refl refl;
+  hour = time_two s 11 e (omega arith) refl refl;
+  minute = time_two s 14 e (omega arith) refl refl;
+  second = time_two s 17 e (omega arith) refl refl;
+}
 
 -- Two digits put after a number.
 number_two : (n x y : ℕ) → is_digit x ≡ true → is_digit y ≡ true → number n (x ∷ y ∷ []) ≡ n * 100 + ((x - 48) * 10 + (y - 48))

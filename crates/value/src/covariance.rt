@@ -18,7 +18,7 @@ use text::digits::number;
 const WIDTH: usize = 20;
 
 // The whole number is given in two parts, high and low, by this number.
-const PART_BASE: u64 = 10000000000;
+const PART_BASE: u64 = 10_000_000_000;
 
 // A text as a covariance.
 #[tactic(auto, unfolding(crate::specs::Covariance::covariance, crate::specs::Covariance::size))]
