@@ -10,21 +10,16 @@ use borrow.Author.Tests.{leb-true, le-leb}
 use Rattle.text.proofs.Bools.{bools, both}
 use Rattle.refusal.specs.Paper.{Paper, paper, request, Answer, refused_by, given}
 use Rattle.refusal.specs.declared.Kind.TheVariants.{NoObservation, NotOptical, ListTooShort}
-use Rattle.refusal.specs.declared.Refusal.{Refusal}
 use Rattle.element.specs.Observation.{Observation, is_radar, is_radar_set}
 use Rattle.element.specs.Table.{elements}
 use Rattle.element.proofs.Sets.{set_radar}
-use Rattle.report.specs.Report.{refused, read}
+use Rattle.report.specs.Report.{read}
 use Rattle.report.specs.Index.{row_at, AcceptedIs, noted_value}
 use Rattle.report.specs.declared.index.Row.{Row}
 use Rattle.report.proofs.IndexLaws.{noted_value_lem}
 use Rattle.night.specs.Record.{fields_in, record_bytes, record_of}
 use Rattle.night.specs.List.{record_size, Done, done, list_with, written_answer}
 use Rattle.night.specs.Inner.{Writes, noted_fields, place_answer}
-
--- A refused report.
-pub write_refused : (report : List ℕ) {x : Refusal} (n : ℕ) (list : List ℕ) → read report ≡ refused x → Writes report n list (refused_by (paper x)) list
-write_refused report n list e = (rw e refl, rw e refl)
 
 -- ---- by the count of observations, the kind and the room
 

@@ -58,13 +58,7 @@ fn answer_at(count: usize, radar: bool, number: usize, room: usize) -> Result<()
 }
 
 // Writes the record of the observation that a row of an index notes at the place of a number, for which the list has room.
-fn write_at(
-    report: &[u8],
-    rows: &[Row],
-    row: usize,
-    number: usize,
-    list: &mut [u8],
-)
+fn write_at(report: &[u8], rows: &[Row], row: usize, number: usize, list: &mut [u8])
     requires { (1 ≤ number) × (number * record_size ≤ length list.old) }
     ensures { list.new ≡ list_with number (record_bytes (noted_fields report.now rows.now row number)) list.old }
 {
@@ -77,16 +71,8 @@ fn write_at(
 }
 
 // The value of an element, by its index, in the observation that a row of an index notes.
-fn noted_value(
-    report: &[u8],
-    rows: &[Row],
-    row: usize,
-    element: usize,
-) -> Result<Value, Kind>
+fn noted_value(report: &[u8], rows: &[Row], row: usize, element: usize) -> Result<Value, Kind>
     ensures { result ≡ value_of element (noted_value report.now rows.now row element) }
 {
-    form::value(
-        element,
-        value_of(report, rows, row, element),
-    )
+    form::value(element, value_of(report, rows, row, element))
 }
