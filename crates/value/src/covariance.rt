@@ -96,6 +96,7 @@ fn power(text: &[u8]) -> i64
 }
 
 // The whole number that the digits of a text of at most 20 bytes make, in two parts, with the sign before it and its power of ten.
+// Two numbers of 64 bits are worked out in one loop: to divide one of 128 bits takes a routine that the C archive would have to bring.
 #[tactic(auto, using(text::proofs::Classes::digit_range, crate::proofs::Scaled::parts_none, crate::proofs::Scaled::parts_room))]
 fn in_parts(minus: bool, text: &[u8], power: i64) -> Value
     requires { length text.now ≤ 20 }
