@@ -1,5 +1,5 @@
 // Numbers read from words.
-ghost use Rattle.std.specs.Prelude.{◌≡◌, ◌+◌, min, nat_abs};
+ghost use Rattle.std.specs.Prelude.{◌≡◌, min};
 ghost use Rattle.text.specs.Digits.{after as put, number as made};
 ghost use Rattle.words.specs.Numbers.{largest, number_in};
 
@@ -38,18 +38,4 @@ fn after(n: u64, byte: u8) -> u64
     } else {
         n
     }
-}
-
-// The sum of two numbers, at most the largest.
-pub fn sum(a: u64, b: u64) -> u64
-    ensures { result ≡ min (a + b) largest }
-{
-    a.saturating_add(b)
-}
-
-// A signed number without its sign.
-pub fn magnitude(n: i64) -> u64
-    ensures { result ≡ nat_abs n }
-{
-    n.unsigned_abs()
 }

@@ -15,33 +15,6 @@ pub fn bytes(rt: &impl Print, text: &[u8]) -> io::Result<()> {
     rt.write_all(text)
 }
 
-// Prints a number.
-pub fn number(rt: &impl Print, n: u64) -> io::Result<()> {
-    rt.print(n)
-}
-
-// Prints a number between words.
-pub fn between(rt: &impl Print, before: &[u8], n: u64, after: &[u8]) -> io::Result<()> {
-    bytes(rt, before)?;
-    number(rt, n)?;
-    bytes(rt, after)
-}
-
-// Prints a number of 16 bits between words.
-pub fn short_between(rt: &impl Print, before: &[u8], n: u16, after: &[u8]) -> io::Result<()> {
-    between(rt, before, u64::from(n), after)
-}
-
-// Prints a number with zeros before it where it has fewer digits than that.
-pub fn padded(rt: &impl Print, n: u64, digits: usize) -> io::Result<()> {
-    print!(rt; "{n:0digits$}")
-}
-
-// Prints a number with its sign.
-pub fn signed(rt: &impl Print, n: i64) -> io::Result<()> {
-    rt.print(n)
-}
-
 // Prints a text in hexadecimal: two digits a byte, the high one first.
 pub fn hexadecimal(rt: &impl Print, text: &[u8]) -> io::Result<()> {
     for step in text.chunks(STEP) {
