@@ -1,11 +1,14 @@
 -- How many rows a report has: no more than the limit, and no more than it has lines.
-use Prim.Native.Nat.{ℕ, suc, ◌≤◌}
+use Prim.Native.Nat.{ℕ, suc, ◌+◌, ◌≤◌, ◌<◌}
 use mathlib.Core.Path.{◌≡◌, refl, ap, ◌∙◌}
 use mathlib.Core.Bool.{true}
+use mir.Val.{bool_byte}
 use mathlib.Core.List.{List, [], ◌∷◌}
 use native.Mathlib.Omega.{arith}
 use lib.Dec.{eqb, leb}
-use lib.ListN.{length}
+use lib.ListN.{length, drop, get_or, drop_of_length-le}
+use lib.Seq.{drop-cons}
+use native.Mathlib.Numerals.{add-one}
 use borrow.Author.Tests.{leb-true}
 use Rattle.text.specs.Lines.{Lines, end, cut, line, lines, onto, line_feed}
 use Rattle.text.proofs.Bools.{bools, both}
@@ -14,6 +17,18 @@ use Rattle.report.specs.Report.{State, Step, next, row, bad, Outcome, accepted, 
 use Rattle.report.proofs.Join.{refused≢accepted, more_accepted, end_opens, read_accepted}
 use Rattle.layout.proofs.Accepted.{accepted_rows}
 use Rattle.pack.specs.Inner.{observations_of, observed, feeds, short_rows, short_text, is_short}
+
+-- A byte more: it counts 1 where it is LF.
+pub feeds_next : (t : List ℕ) (i : ℕ) → i < length t
+    → (bool_byte (eqb (get_or t i 0) line_feed) ≤ 1) × (feeds (drop i t) ≡ bool_byte (eqb (get_or t i 0) line_feed) + feeds (drop (i + 1) t))
+unfolding feeds
+feeds_next t i h =
+    rw (add-one i, drop-cons t i 0 h)
+    (bools (eqb (get_or t i 0) line_feed) (λ e. rw e (omega arith, omega arith)) (λ e. rw e (omega arith, omega arith)))
+
+pub feeds_end : (t : List ℕ) (i : ℕ) → length t ≤ i → feeds (drop i t) ≡ 0
+unfolding feeds
+feeds_end t i h = rw (drop_of_length-le t)
 
 -- How many lines there are.
 abbrev line_count : Lines → ℕ

@@ -58,6 +58,10 @@ pub record Columns (columns : List ℕ) : Type 0 where
 abbrev pub row_line : List ℕ → List ℕ → ℕ → List ℕ
 row_line report columns row = line_of (values_at columns (get_or (observed report) row []))
 
+-- The index notes a row of the report, and there are columns to write it under.
+abbrev pub RowUnder : List ℕ → List Row → List ℕ → ℕ → Type 0
+RowUnder report rows columns row = Indexed report rows × (row < length (observed report)) × Columns columns
+
 -- A row of the report can be written.
 pub record RowAsks (report : List ℕ) (rows : List Row) (columns output : List ℕ) (row : ℕ) : Type 0 where
   pub indexed : Indexed report rows

@@ -1,15 +1,14 @@
--- `pack::short::line_count` meets its contract.
-use mathlib.Core.Path.{◌≡◌, refl, sym, ◌∙◌}
-use borrow.Author.Rules.{rules}
-use lib.Dec.{eqb}
-use Rattle.std.specs.Prelude.{count_by}
-use Rattle.std.proofs.lemmas.List.Recursion.{is_count_by}
-use Rattle.text.specs.Lines.{line_feed}
-use Rattle.pack.specs.Inner.{feeds}
+-- `pack::short::line_count` meets its contract. The invariant: the LFs passed and the LFs left are those of the report.
+use native.Mathlib.Omega.{arith}
+use Rattle.pack.proofs.RowCounts.{feeds_next, feeds_end}
 use Rattle.pack.proofs.short.line_count.Goals as goal
 
+pub loop-byte-preserved : goal.loop-byte-preserved
+loop-byte-preserved c =
+    let next = feeds_next c.args.report.now c.loop-byte.byte-index c.loop-byte-test.true in (
+      omega (arith, c.from-count.ensures, next.0, c.loop-byte.invariant.0),
+      omega (arith, c.from-count.ensures, next.1, c.loop-byte.invariant.1),
+    )
+
 pub returns : goal.returns
-unfolding feeds
-returns c =
-    let counted : c.count.result ≡ count_by (λ byte. eqb byte line_feed) c.args.report.now = search rules in
-    counted ∙ sym (is_count_by feeds (λ byte. eqb byte line_feed) refl (λ byte text. refl) c.args.report.now)
+returns c = omega (arith, feeds_end c.args.report.now c.loop-byte.byte-index c.loop-byte-test.false, c.loop-byte.invariant.1)
