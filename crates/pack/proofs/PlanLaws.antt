@@ -1,17 +1,16 @@
 -- Laws of planning: the index of an accepted report notes its observations, their sizes are within the text limit, and the cuts of its
 -- rows write its packed report.
-use Prim.Native.Nat.{ℕ, zero, suc, ◌+◌, ◌-◌, ◌*◌, ◌≤◌, ◌<◌}
+use Prim.Native.Nat.{ℕ, zero, suc, ◌+◌, ◌≤◌, ◌<◌}
 use mathlib.Core.Path.{◌≡◌, refl, sym, ap, ◌∙◌}
 use mathlib.Core.Bool.{true}
 use mathlib.Core.List.{List, [], ◌∷◌, map}
 use native.Mathlib.Nat.{zero-add}
 use native.Mathlib.Omega.{arith}
-use lib.ListN.{length, take, drop, get_or, length-take, length-drop, length-map, get_or-map}
-use lib.Seq.{take-length, length-take-le, get_or-take, get_or-drop, ext_get_or}
+use lib.ListN.{length, take, drop, get_or, length-take, length-map, get_or-map}
+use lib.Seq.{take-length, length-take-le, get_or-take, ext_get_or}
 use borrow.Author.Tests.{eq-eqb, le-leb}
 use Rattle.refusal.specs.declared.Refusal.{Refusal}
 use Rattle.element.specs.Set.{bytes_in}
-use Rattle.element.specs.Table.{elements}
 use Rattle.element.specs.Observation.{Observation, set_of}
 use Rattle.element.proofs.Sets.{set_radar}
 use Rattle.report.specs.Report.{accepted, read}

@@ -1,5 +1,5 @@
 -- What the private functions of packing promise each other. A reviewer of the promise can skip this file.
-use Rattle.std.specs.Prelude.{ℕ, ◌+◌, ◌*◌, ◌≤◌, ◌<◌, ◌≡◌, Bool, cond, ◌&&◌, List, [], ◌∷◌, ◌++◌, map, eqb, leb, ltb, length, take, drop, get_or, Result, Ok, Err}
+use Rattle.std.specs.Prelude.{ℕ, ◌+◌, ◌≤◌, ◌<◌, ◌≡◌, Bool, cond, ◌&&◌, List, [], ◌∷◌, ◌++◌, map, eqb, leb, ltb, length, take, drop, get_or, Result, Ok, Err}
 use Rattle.text.specs.Lines.{line_feed, bar}
 use Rattle.text.specs.Output.{over, put_over}
 use Rattle.refusal.specs.declared.Refusal.{Refusal}
