@@ -38,12 +38,7 @@ pub fn compare(first: &[u8], second: &[u8]) -> Compared
 }
 
 // A report of so many observations, by its index, compared with a second text.
-fn compare_second(
-    first: &[u8],
-    rows: &[Row],
-    count: usize,
-    second: &[u8],
-) -> Compared
+fn compare_second(first: &[u8], rows: &[Row], count: usize, second: &[u8]) -> Compared
     requires { NotesAll first.now rows.now count }
     ensures { result ≡ compared_of (read_of first.now) (read_of second.now) }
 {
