@@ -17,6 +17,7 @@ pub(crate) fn plan_stretches(marks: &[u8], sets: &[u64], sizes: &[u32], cuts: &m
     let mut blocks: usize = 0;
     let mut bytes: u64 = 0;
     let mut at: usize = 0;
+    // No loop over an index: the next stretch begins where this one ends.
     while at < marks.len() {
         let end = stretch_end(marks, at);
         let plan = plan_ready(&sets[at..end], &sizes[at..end], &mut cuts[blocks..]);

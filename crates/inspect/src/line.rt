@@ -76,7 +76,7 @@ fn is_present(line: &[u8], columns: &[u8], element: usize) -> bool
 }
 
 // Where the column line starts that holds for the line of a number, counted from 0: after the last line before it that begins with `#`;
-// 0 where there is none.
+// 0 where there is none, since then its callers look at the first line.
 #[tactic(auto, unfolding(crate::specs::Line::columns_before, crate::specs::Part::part_start))]
 pub fn columns_before(text: &[u8], number: usize) -> usize
     ensures { result ≡ columns_before text.now number }

@@ -10,6 +10,7 @@ use refusal::Refusal;
 use report::index::BLANK;
 
 // Measures a report of no more than so many rows. It makes an index of them, with one row more, which the reader uses itself.
+#[inline(never)]
 pub(crate) fn measure_rows<const ROWS: usize, const NOTED: usize>(
     report: &[u8],
     cuts: &mut [u16],
@@ -28,7 +29,7 @@ fn give_cuts(found: &[u16], plan: Plan, cuts: &mut [u16]) -> Measured
     requires { plan.blocks ≤ length found.now }
     ensures { Given found.now plan cuts.old cuts.new result }
 {
-    text::list::put(&found[..plan.blocks], cuts);
+    text::output::put(&found[..plan.blocks], cuts);
     Measured {
         length: plan.bytes as usize,
         blocks: plan.blocks,

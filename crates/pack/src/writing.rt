@@ -10,6 +10,7 @@ use refusal::{Kind, Refusal};
 use report::index::{BLANK, Row};
 
 // Writes a report of no more than so many rows by cuts. It makes an index of them, with one row more, which the reader uses itself.
+#[inline(never)]
 pub(crate) fn write_rows<const ROWS: usize, const NOTED: usize>(
     report: &[u8],
     cuts: &[u16],
