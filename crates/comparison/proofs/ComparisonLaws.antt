@@ -5,7 +5,7 @@ use mathlib.Core.Bool.{Bool, true, false}
 use mathlib.Core.List.{List, [], ◌∷◌}
 use native.Mathlib.Numerals.{add-one}
 use native.Mathlib.Omega.{arith}
-use lib.ListN.{length, drop, get_or, drop_of_length-le}
+use lib.ListN.{length, drop, get_or, replicate, drop_of_length-le}
 use lib.Seq.{drop-cons}
 use borrow.Author.Tests.{eq-eqb, ne_eqb}
 use native.Mathlib.Decide.{dec_le}
@@ -15,7 +15,7 @@ use Rattle.text.specs.Part.{same}
 use Rattle.element.specs.Table.{elements}
 use Rattle.element.specs.Observation.{Observation}
 use Rattle.report.specs.Report.{accepted, read, row_limit}
-use Rattle.report.specs.Index.{row_at, Noted, noted_value}
+use Rattle.report.specs.Index.{room_in, row_at, Noted, noted_value}
 use Rattle.report.specs.declared.index.Row.{Row}
 use Rattle.report.proofs.IndexLaws.{noted_value_lem}
 use Rattle.comparison.specs.declared.Compared.TheVariants.{Same, Differ}
@@ -69,6 +69,10 @@ none_zero zero d e z = refl
 none_zero (suc n) d e z = let q : is_some (numbered (suc n)) ≡ false = rw e at z in absurd (let y : ◌≡◌ {A = ℕ} 0 1 = cc in omega arith)
 
 -- Row by row.
+
+-- An index of as many rows as a report can have, and one for the reader's own use, has room for every observation.
+pub room_all : (row : Row) → room_in (replicate (row_limit + 1) row) ≡ row_limit
+room_all row = refl
 
 -- The observations of an accepted text.
 observations_are : (t : List ℕ) (rows : List Observation) → read t ≡ accepted rows → observations_of (read t) ≡ rows

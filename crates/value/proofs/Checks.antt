@@ -10,7 +10,9 @@ use Rattle.refusal.specs.declared.Kind.TheVariants.{TooWide, WrongForm, OutOfRan
 use Rattle.value.specs.Check.{less_value}
 use Rattle.value.specs.Decimal.{is_decimal, places, is_too_wide, Unit, is_within, decimal_of, decimal_in, decimal, correlation}
 use Rattle.value.specs.Sign.{bare}
+use Rattle.value.specs.Time.{is_time, is_moment, day_of, microseconds, obs_time}
 use Rattle.value.specs.declared.Value.{Value}
+use Rattle.value.specs.declared.Value.TheVariants.{Time}
 
 -- A value of a form, in a range.
 abbrev in_range : Bool → Bool → Value → Result Value Kind
@@ -30,6 +32,11 @@ pub in_width_lem : (wide form range : Bool) (value : Value) → Ok tt ≡ less_v
     → (wide ≡ false) × (form ≡ true) × (range ≡ true)
 in_width_lem true form range value e = cc
 in_width_lem false form range value e = let right = in_range_lem form range value e in (refl, right.0, right.1)
+
+-- A text whose time a check finds to be right has the form of one, and is on the calendar and the clock.
+pub found_time : (text : List ℕ) → Ok tt ≡ less_value (obs_time text) → (is_time text ≡ true) × (is_moment text ≡ true)
+unfolding obs_time
+found_time text e = in_range_lem (is_time text) (is_moment text) (Time (day_of text) (microseconds text)) e
 
 -- The fault of a decimal of any value is its fault in each range.
 any_range : (kind : Kind) (wide form range : Bool) (value : Value) → Err kind ≡ less_value (in_width wide form true value) → Err kind ≡ in_width wide form range value
