@@ -1,5 +1,6 @@
 // The refusals in words.
-ghost use Rattle.std.specs.Prelude.{◌<◌};
+ghost use Rattle.std.specs.Prelude.{◌≡◌, ◌<◌, IfSome};
+ghost use Rattle.refusal.specs.Number.{number_of};
 
 use crate::kinds;
 use element::ELEMENTS;
@@ -231,8 +232,10 @@ fn words_of(kind: Kind) -> &'static Words {
     &WORDS[index_of(kind)]
 }
 
-// The kind of a number, if there is one.
-pub fn of_number(number: u64) -> Option<Kind> {
+// The kind of a number of the paper, if there is one.
+pub fn of_number(number: u64) -> Option<Kind>
+    ensures { IfSome result (λ kind. number_of kind ≡ number) }
+{
     WORDS
         .iter()
         .map(|words| words.kind)
