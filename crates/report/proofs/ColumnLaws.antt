@@ -3,10 +3,10 @@ use Prim.Native.Nat.{ℕ, zero, suc, ◌≤◌, ◌<◌, ◌+◌, ◌-◌}
 use mathlib.Core.Path.{◌≡◌, refl, ap, sym, ◌∙◌}
 use mathlib.Core.List.{List, [], ◌∷◌, ◌++◌}
 use mathlib.Core.Bool.{Bool, true, false, cond, ◌||◌, true≢false}
-use lib.ListN.{length, take, drop, get_or, set, length-set, replicate}
-use lib.Seq.{length-take-le, take-suc-set, get_or-set_same, get_or-set_other}
+use lib.ListN.{length, take, drop, get_or, set, length-set, length-append, replicate}
+use lib.Seq.{get_or-set_other}
 use lib.Dec.{eqb, ltb}
-use borrow.Author.Tests.{eq-eqb, eqb-true, eqb-false, le-ltb, lt-ltb, ltb-true, ltb-false}
+use borrow.Author.Tests.{eq-eqb, le-ltb, lt-ltb, ltb-true, ltb-false}
 use native.Mathlib.Omega.{arith}
 use native.Mathlib.Numerals.{add-one}
 use Rattle.std.specs.Prelude.{Option, Some, None, Ok}
@@ -18,7 +18,6 @@ use Rattle.refusal.specs.declared.Kind.TheVariants.{UnknownColumn, ColumnTwice}
 use Rattle.element.specs.Table.{elements, index_of, found_index}
 use Rattle.report.specs.Report.{columns_from, bad, member}
 use Rattle.report.specs.Inner.{NamedIs}
-use Rattle.report.specs.declared.state.Need.TheVariants as Need
 
 -- How many entries are not 0.
 abbrev marked : List ℕ → ℕ
@@ -43,18 +42,16 @@ member_snoc x e (c ∷ cs) h =
 
 -- The loop: the columns so far, and the fields that are left; an element that the columns leave free has no mark, so that there is room for one
 -- column more.
-pub record Naming (l columns₀ columns : List ℕ) (parts a k : ℕ) : Type 0 where
-  pub long : length columns ≡ length columns₀
-  pub few : k ≤ elements
+pub record Naming (l columns : List ℕ) (parts a k : ℕ) : Type 0 where
+  pub long : length columns ≡ k
   pub marks : List ℕ
   pub wide : length marks ≡ elements
   pub full : marked marks ≡ k
-  pub free : (e : ℕ) → e < elements → member e (take k columns) ≡ false → get_or marks e 0 ≡ 0
-  pub known : (j : ℕ) → j < k → get_or columns j 0 < elements
+  pub free : (e : ℕ) → e < elements → member e columns ≡ false → get_or marks e 0 ≡ 0
   pub left : List (List ℕ)
   pub count : k + length left ≡ parts
   pub lies : Left l a left
-  pub rest : columns_from [] (fields l) ≡ columns_from (take k columns) left
+  pub rest : columns_from [] (fields l) ≡ columns_from columns left
 
 -- An index that is found, and one that is not.
 found_none : (n : ℕ) → found_index n ≡ None → elements ≤ n
@@ -69,19 +66,18 @@ found_some n i e =
     (w, rw (← w) (ltb-true n elements q)))
     (λ q. let z : ◌≡◌ {A = Option ℕ} None (Some i) = rw q at e in cc)
 
-pub name_named : {l columns₀ columns : List ℕ} {parts a k : ℕ} → Naming l columns₀ columns parts a k → k ≡ parts
-    → NamedIs l columns (Ok (record { need = Need.Row; columns = parts; radar = false }))
+pub name_named : {l columns : List ℕ} {parts a k : ℕ} → Naming l columns parts a k → parts ≤ k → NamedIs l (Ok columns)
 unfolding columns_from
 name_named s e =
     let none : s.left ≡ [] = empty s.left (omega (arith, s.count)) in
-    rw (← e) (record { case = record { is = s.rest ∙ rw none; known = record { few = s.few; known = s.known } } })
+    record { case = s.rest ∙ rw none }
   where
     empty : (fs : List (List ℕ)) → length fs ≡ 0 → fs ≡ []
     empty [] h = refl
     empty (f ∷ fs) h = absurd (omega arith)
 
-module _ {l columns₀ columns : List ℕ} {parts a k start size till : ℕ} (s : Naming l columns₀ columns parts a k) (b : k < parts)
-    (f : FieldAt l a start size till) (hc : elements ≤ length columns₀)
+module _ {l columns : List ℕ} {parts a k start size till : ℕ} (s : Naming l columns parts a k) (b : k < parts)
+    (f : FieldAt l a start size till)
     {r : Option ℕ} (ie : r ≡ found_index (index_of (take (start + size - start) (drop start l)))) where
   lies : (a ≤ length l) × (s.left ≡ fields (drop a l))
   lies = s.lies (omega (arith, s.count))
@@ -95,68 +91,52 @@ module _ {l columns₀ columns : List ℕ} {parts a k start size till : ℕ} (s 
   name_is : r ≡ found_index (index_of (trim (field_from l a)))
   name_is = let c : start + size - start ≡ size = omega arith in ie ∙ rw (c, f.value)
 
-  seen_long : length (take k columns) ≡ k
-  seen_long = length-take-le k columns (omega (arith, s.long, s.few))
-
   pub name_unknown : r ≡ None → columns_from [] (fields l) ≡ bad UnknownColumn (k + 1)
   unfolding columns_from
   name_unknown e =
-      s.rest ∙ rw (left_is, le-ltb (index_of (trim (field_from l a))) elements (found_none _ (sym name_is ∙ e)), seen_long, add-one)
+      s.rest ∙ rw (left_is, le-ltb (index_of (trim (field_from l a))) elements (found_none _ (sym name_is ∙ e)), s.long, add-one)
 
   module _ {i : ℕ} (e : r ≡ Some i) where
     is : index_of (trim (field_from l a)) ≡ i
     is = (found_some _ i (sym name_is ∙ e)).0
 
-    pub h : i < elements
+    h : i < elements
     h = (found_some _ i (sym name_is ∙ e)).1
 
-    pub name_twice : true ≡ member i (take k columns) → columns_from [] (fields l) ≡ bad ColumnTwice (k + 1)
+    pub name_twice : true ≡ member i columns → columns_from [] (fields l) ≡ bad ColumnTwice (k + 1)
     unfolding columns_from
-    name_twice m = s.rest ∙ rw (left_is, is, lt-ltb _ _ h, ← m, seen_long, add-one)
+    name_twice m = s.rest ∙ rw (left_is, is, lt-ltb _ _ h, ← m, s.long, add-one)
 
-    module _ (m : false ≡ member i (take k columns)) where
+    module _ (m : false ≡ member i columns) where
       gone : marked (set s.marks i 1) ≡ suc k
       gone = marked_set s.marks i (omega (arith, s.wide, h)) (s.free i h (sym m)) ∙ ap suc s.full
 
-      pub name_room : k < elements
-      name_room = omega (arith, gone, marked_le (set s.marks i 1), length-set s.marks i 1, s.wide)
+      pub name_room : (length columns < elements) × (i < elements)
+      name_room = (omega (arith, gone, s.long, marked_le (set s.marks i 1), length-set s.marks i 1, s.wide), h)
 
-      snoc : take (k + 1) (set columns k i) ≡ take k columns ++ (i ∷ [])
-      snoc = rw add-one (take-suc-set columns k i (omega (arith, name_room, s.long)))
-
-      known_on : (j : ℕ) → j < k + 1 → get_or (set columns k i) j 0 < elements
-      known_on j b =
-          bools (eqb j k)
-          (λ q. let e : j ≡ k = eqb-true j k q in rw (e, get_or-set_same columns k i 0 (omega (arith, name_room, s.long))) h)
-          (λ q. let n = eqb-false j k q in rw (get_or-set_other columns k j i 0 n) (s.known j (omega (arith, n))))
-
-      pub name_on : Naming l columns₀ (set columns k i) parts (till + 1) (k + 1)
+      pub name_on : Naming l (columns ++ (i ∷ [])) parts (till + 1) (k + 1)
       unfolding columns_from
       name_on = record {
-        long = simp length-set s.long;
-        few = omega (arith, name_room);
+        long = length-append columns (i ∷ []) ∙ ap (λ (n : ℕ). n + 1) s.long;
         marks = set s.marks i 1;
         wide = simp length-set s.wide;
         full = rw add-one gone;
         free = λ e b q.
-            let p = member_snoc e i (take k columns) (rw snoc at q) in
+            let p = member_snoc e i columns q in
             get_or-set_other s.marks i e 1 0 (λ z. p.1 (sym z)) ∙ s.free e b p.0;
-        known = known_on;
         left = parted.others;
         count = omega (arith, s.count, ap length left_is);
         lies = parted.after;
-        rest = s.rest ∙ (ap (λ (fs : List (List ℕ)). columns_from (take k columns) fs) left_is ∙ rw (is, lt-ltb _ _ h, ← m, snoc));
+        rest = s.rest ∙ (ap (λ (fs : List (List ℕ)). columns_from columns fs) left_is ∙ rw (is, lt-ltb _ _ h, ← m));
       }
 
-pub name_start : (l columns : List ℕ) {parts : ℕ} → parts ≡ length (fields l) → Naming l columns columns parts 0 0
-name_start l columns e = record {
+pub name_start : (l : List ℕ) {parts : ℕ} → parts ≡ length (fields l) → Naming l [] parts 0 0
+name_start l e = record {
   long = refl;
-  few = omega arith;
   marks = replicate elements 0;
   wide = refl;
   full = refl;
   free = λ e b q. zeros elements e;
-  known = λ j b. absurd (omega arith);
   left = fields l;
   count = omega (arith, e);
   lies = λ h. (omega arith, refl);

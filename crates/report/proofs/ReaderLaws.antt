@@ -17,13 +17,12 @@ use Rattle.refusal.specs.Paper.{on_line}
 use Rattle.refusal.specs.declared.Fault.{Fault}
 use Rattle.refusal.specs.declared.Kind.TheVariants.{TextTooLong, NoLineEnd}
 use Rattle.refusal.specs.declared.Refusal.{Refusal}
-use Rattle.element.specs.Table.{elements}
 use Rattle.element.specs.Observation.{Observation}
 use Rattle.report.specs.Report.{bad, Outcome, accepted, refused, more, at_end, after, read_from, begin, read, text_limit, row_limit}
 use Rattle.report.specs.Starts.{starts_after, starts_from, starts_in, starts_of}
 use Rattle.report.specs.Index.{row_at, Noted, AcceptedIs, IndexCase, IndexIs}
 use Rattle.report.specs.declared.index.Row.{Row}
-use Rattle.report.specs.Inner.{between, state_of, Known, NextIs, RowTaken, LineAsks, TookLine, NextLine, NextIn, step_at, slot_of, checked_at}
+use Rattle.report.specs.Inner.{between, state_of, NextIs, RowTaken, LineIn, TookLine, NextLine, NextIn, step_at, slot_of, checked_at}
 use Rattle.report.specs.declared.line.Line.{Line}
 use Rattle.report.specs.declared.state.Need.{Need}
 use Rattle.report.specs.declared.state.State.{State as CodeState}
@@ -140,8 +139,6 @@ pub record Reading (t columns : List ℕ) (first room : ℕ) (rows : List Row) (
   pub short : length t ≤ text_limit
   pub lines_few : number ≤ at + 1
   pub rows_few : k ≤ row_limit
-  pub wide : length columns ≡ elements
-  pub known : Known s columns
   pub room_is : room < length rows
   pub observations : List Observation
   pub count : length observations ≡ k
@@ -152,20 +149,17 @@ pub record Reading (t columns : List ℕ) (first room : ℕ) (rows : List Row) (
   pub left : starts_from begin 0 0 (lines t) ≡ spots ++ starts_from (state_of s columns) at k (lines (drop at t))
 
 -- The state where a text begins.
-pub begun : (s : CodeState) → (s.need ≡ Need.Version) × ((s.columns ≡ 0) × (s.radar ≡ false)) → s ≡ record { need = Need.Version; columns = 0; radar = false }
+pub begun : (s : CodeState) → (s.need ≡ Need.Version) × (s.radar ≡ false) → s ≡ record { need = Need.Version; radar = false }
 begun s h =
-    ap (λ (n : Need). record { need = n; columns = s.columns; radar = s.radar }) h.0
-    ∙ (ap (λ (c : ℕ). record { need = Need.Version; columns = c; radar = s.radar }) h.1.0 ∙ ap (λ (r : Bool). record { need = Need.Version; columns = 0; radar = r }) h.1.1)
+    ap (λ (n : Need). record { need = n; radar = s.radar }) h.0 ∙ ap (λ (r : Bool). record { need = Need.Version; radar = r }) h.1
 
-pub read_start : {t columns : List ℕ} {first room : ℕ} {rows : List Row} → length columns ≡ elements → length t ≤ text_limit → room < length rows
-    → Reading t columns first room rows 0 1 0 (record { need = Need.Version; columns = 0; radar = false })
-read_start w h a = record {
+pub read_start : {t : List ℕ} {first room : ℕ} {rows : List Row} → length t ≤ text_limit → room < length rows
+    → Reading t [] first room rows 0 1 0 (record { need = Need.Version; radar = false })
+read_start h a = record {
   at_most = omega arith;
   short = h;
   lines_few = omega arith;
   rows_few = omega arith;
-  wide = w;
-  known = record { few = omega arith; known = λ j b. absurd (omega arith) };
   room_is = a;
   observations = [];
   count = refl;
@@ -220,19 +214,15 @@ module _ {t columns : List ℕ} {first room : ℕ} {rows : List Row} {at number 
     line_is : between t at ln.till ≡ first_line (drop at t)
     line_is = let d : ln.till - at ≡ up_to 10 (drop at t) = omega (arith, till_is) in rw d (first_line_lem (drop at t))
 
-    pub line_asks : LineAsks t columns ln.from ln.till ln.fields s × (ln.printable ≡ printable (between t ln.from ln.till))
+    pub line_asks : LineIn t ln.from ln.till ln.fields × (ln.printable ≡ printable (between t ln.from ln.till))
     line_asks =
         let r = rest_of t at v.at_most in
         rw l.from_is (
           record {
-            lies = record {
-              order = l.order;
-              in_text = l.ended;
-              short = omega (arith, l.ended, v.short);
-              parts_are = l.scanned.parts_is ∙ ap (λ (l : List ℕ). length (fields l)) (ap (λ (l : List ℕ). first_line l) r ∙ sym line_is);
-            };
-            wide = omega (arith, v.wide);
-            known = v.known;
+            order = l.order;
+            in_text = l.ended;
+            short = omega (arith, l.ended, v.short);
+            parts_are = l.scanned.parts_is ∙ ap (λ (l : List ℕ). length (fields l)) (ap (λ (l : List ℕ). first_line l) r ∙ sym line_is);
           },
           l.scanned.right_is ∙ ap (λ (l : List ℕ). printable l) (ap (λ (l : List ℕ). first_line l) r ∙ sym line_is),
         )
@@ -258,8 +248,8 @@ module _ {t columns : List ℕ} {first room : ℕ} {rows : List Row} {at number 
     unfolding starts_from
     on_starts = v.left ∙ rw (split, line_long)
 
-    module _ {columns' : List ℕ} {x y : Row} {r : Result Taken Fault} (took : TookLine t columns columns' x y ln.from ln.till k s (step_at t ln.from ln.till s columns k) r) where
-      took_at : TookLine t columns columns' x y at ln.till k s (step_at t at ln.till s columns k) r
+    module _ {columns' : List ℕ} {x y : Row} {r : Result Taken Fault} (took : TookLine t columns columns' x y ln.from ln.till k (step_at t ln.from ln.till s columns k) r) where
+      took_at : TookLine t columns columns' x y at ln.till k (step_at t at ln.till s columns k) r
       took_at = rw l.from_is at took
 
       pub read_bad : {rows' : List Row} {f : Fault} → r ≡ Err f → {z : Refusal} → z ≡ on_line ln.number f → IndexIs t first room rows' (Err z)
@@ -267,7 +257,7 @@ module _ {t columns : List ℕ} {first room : ℕ} {rows : List Row} {at number 
           let b : step_at t at ln.till s columns k ≡ bad f.kind f.place = rw e at took_at.case in
           record { case = rw (g, l.number_is) (read_short t v.short ∙ (on ∙ rw b (prefix_refused v.observations _))) }
 
-      module _ (wide : length columns' ≡ length columns) {slot : ℕ} (slot_is : (slot ≡ slot_of first room k) × (slot ≤ room)) (lent : x ≡ row_at rows slot) where
+      module _ {slot : ℕ} (slot_is : (slot ≡ slot_of first room k) × (slot ≤ room)) (lent : x ≡ row_at rows slot) where
         inside : slot < length rows
         inside = omega (arith, v.room_is, slot_is.1)
 
@@ -283,8 +273,6 @@ module _ {t columns : List ℕ} {first room : ℕ} {rows : List Row} {at number 
               short = v.short;
               lines_few = omega (arith, v.lines_few, l.order);
               rows_few = v.rows_few;
-              wide = wide ∙ v.wide;
-              known = n.known;
               room_is = room_is';
               observations = v.observations;
               count = v.count;
@@ -295,17 +283,15 @@ module _ {t columns : List ℕ} {first room : ℕ} {rows : List Row} {at number 
               left = on_starts ∙ rw n.is;
             })
 
-        noted_row : (radar : Bool) → RowTaken t columns columns' y at ln.till k s (step_at t at ln.till s columns k) radar
-            → Reading t columns' first room (set rows slot y) (ln.till + 1) (number + 1) (k + 1) (record { need = Need.Nothing; columns = s.columns; radar = radar })
+        noted_row : (radar : Bool) → RowTaken t columns columns' y at ln.till k (step_at t at ln.till s columns k) radar
+            → Reading t columns' first room (set rows slot y) (ln.till + 1) (number + 1) (k + 1) (record { need = Need.Nothing; radar = radar })
         noted_row radar n =
-            let spot = starts_of (take s.columns columns) (fields (between t at ln.till)) at in
+            let spot = starts_of columns (fields (between t at ln.till)) at in
             record {
               at_most = omega (arith, l.ended);
               short = v.short;
               lines_few = omega (arith, v.lines_few, l.order);
               rows_few = omega (arith, n.few);
-              wide = wide ∙ v.wide;
-              known = record { few = v.known.few; known = rw n.same v.known.known };
               room_is = room_is';
               observations = v.observations ++ (n.got ∷ []);
               count = length-append v.observations (n.got ∷ []) ∙ ap (λ (z : ℕ). z + 1) v.count;
@@ -329,7 +315,7 @@ module _ {t columns : List ℕ} {first room : ℕ} {rows : List Row} {at number 
             }
 
         pub read_row : {radar : Bool} {a : Taken} → r ≡ Ok a → a ≡ Taken.Noted radar
-            → Reading t columns' first room (set rows slot y) at' number' (k + 1) (record { need = Need.Nothing; columns = s.columns; radar = radar })
+            → Reading t columns' first room (set rows slot y) at' number' (k + 1) (record { need = Need.Nothing; radar = radar })
         read_row {radar} o e =
             let z : r ≡ Ok (Taken.Noted radar) = o ∙ ap Ok e in
             rw (l.at_is, l.number_on) (noted_row radar (rw z at took_at.case))

@@ -29,7 +29,7 @@ use Rattle.report.specs.Report.{Step, row, bad, field_fault, fill, row_of, data_
 use Rattle.report.specs.Starts.{fill_starts, starts_of}
 use Rattle.report.specs.Index.{Shows}
 use Rattle.report.specs.declared.index.Row.{Row}
-use Rattle.report.specs.Inner.{between, marks_of, mark_on, after_rows, kind_by, held_by, noted_in, FieldsAsk, FieldsGood, FieldsAre, RowAsks, RowCase, RowIs}
+use Rattle.report.specs.Inner.{between, marks_of, mark_on, after_rows, kind_by, held_by, noted_in, LineIn, FieldsGood, FieldsAre, RowCase, RowIs}
 use Rattle.report.specs.declared.row.Marks.{Marks}
 use Rattle.report.proofs.FieldLaws.{Left, Split, split}
 
@@ -181,8 +181,7 @@ fill_start t columns noted from till m c hs hl e = record {
     add_none : (n : ℕ) → n ≡ n + 0
     add_none n = omega arith
 
-module _ {t columns : List ℕ} {noted : Row} {from till a k : ℕ} {m : Marks} (asks : FieldsAsk t columns from till)
-    (s : Filling t columns noted from till a k m) where
+module _ {t columns : List ℕ} {noted : Row} {from till a k : ℕ} {m : Marks} (s : Filling t columns noted from till a k m) where
   module _ {start size end : ℕ} (f : FieldAt (between t from till) a start size end) (h : k < length columns) where
     lies : (a ≤ length (between t from till)) × (s.left ≡ fields (drop a (between t from till)))
     lies = s.lies (omega (arith, s.count))
@@ -211,7 +210,8 @@ module _ {t columns : List ℕ} {noted : Row} {from till a k : ℕ} {m : Marks} 
     fields_inside = omega (arith, f.within, f.fits lies.0, length-take (till - from) (drop from t))
 
     -- The value is right, its marks are put on and it is noted.
-    module _ (fine : Ok tt ≡ fault_of (get_or columns k 0) (take (start + size - start) (drop start (between t from till))))
+    module _ (lie : LineIn t from till (length columns)) (small : get_or columns k 0 < elements)
+        (fine : Ok tt ≡ fault_of (get_or columns k 0) (take (start + size - start) (drop start (between t from till))))
         {m' : Marks} (marked : m' ≡ mark_on m (get_or columns k 0) (take (start + size - start) (drop start (between t from till))))
         {noted' : Row} (with_value : noted' ≡ noted_in noted (get_or columns k 0) (from + start) size) where
       fine_is : fault_of (get_or columns k 0) value ≡ Ok tt
@@ -245,13 +245,13 @@ module _ {t columns : List ℕ} {noted : Row} {from till a k : ℕ} {m : Marks} 
       marks' : m' ≡ marks_of sofar'
       unfolding sofar'
       marks' = marked ∙ (ap (λ (v : List ℕ). mark_on m (get_or columns k 0) v) value_is
-          ∙ mark_on_lem s.sofar m (get_or columns k 0) value (omega (arith, asks.known k h, s.wide)) s.marks)
+          ∙ mark_on_lem s.sofar m (get_or columns k 0) value (omega (arith, small, s.wide)) s.marks)
 
       shows' : Shows t noted'.starts noted'.lengths sofar' at'
       unfolding sofar' at'
       shows' =
-          noted_on t noted noted' (get_or columns k 0) (from + start) size s.sofar s.at value (asks.known k h) s.wide s.at_wide s.starts_long s.lengths_long
-          (omega (arith, fields_inside, asks.lies.order, asks.lies.in_text, size_is)) holds size_is with_value s.shows
+          noted_on t noted noted' (get_or columns k 0) (from + start) size s.sofar s.at value (small) s.wide s.at_wide s.starts_long s.lengths_long
+          (omega (arith, fields_inside, lie.order, lie.in_text, size_is)) holds size_is with_value s.shows
 
       long' : (length noted'.starts ≡ length noted.starts) × (length noted'.lengths ≡ length noted.lengths)
       long' = long_on noted noted' (get_or columns k 0) (from + start) size with_value
@@ -327,14 +327,14 @@ pub row_many : (columns : List ℕ) (k : ℕ) (l : List ℕ) → row_limit ≤ k
 unfolding data_line
 row_many columns k l h = rw (le-ltb k row_limit h)
 
-module _ {t columns : List ℕ} {from till parts k : ℕ} (asks : RowAsks t columns from till parts) (h : k < row_limit) where
+module _ {t : List ℕ} (columns : List ℕ) {from till parts k : ℕ} (lie : LineIn t from till parts) (h : k < row_limit) where
   pub row_count : (parts ≡ length columns → ⊥) → data_line columns k (between t from till) ≡ bad FieldCountDiffers 0
   unfolding data_line
-  row_count n = rw (lt-ltb k row_limit h, ne_eqb (length (fields (between t from till))) (length columns) (λ e. n (asks.lies.parts_are ∙ e)))
+  row_count n = rw (lt-ltb k row_limit h, ne_eqb (length (fields (between t from till))) (length columns) (λ e. n (lie.parts_are ∙ e)))
 
   module _ (c : parts ≡ length columns) where
     count_is : length (fields (between t from till)) ≡ length columns
-    count_is = sym asks.lies.parts_are ∙ c
+    count_is = sym lie.parts_are ∙ c
 
     pub row_fields : {fault : Fault} → field_fault 1 columns (fields (between t from till)) ≡ Err fault
         → data_line columns k (between t from till) ≡ bad fault.kind fault.place

@@ -35,28 +35,23 @@ pub record LineIn (t : List ℕ) (from till parts : ℕ) : Type 0 where
   pub short : till < 65536
   pub parts_are : parts ≡ length (fields (between t from till))
 
--- The reader's state as the definition has it: the columns are the first of the list.
+-- The reader's state as the definition has it.
 abbrev pub state_of : CodeState → List ℕ → State
-state_of s columns = record { need = s.need; columns = take s.columns columns; radar = s.radar }
+state_of s columns = record { need = s.need; columns = columns; radar = s.radar }
 
--- The columns of a state are elements.
-pub record Known (s : CodeState) (columns : List ℕ) : Type 0 where
-  pub few : s.columns ≤ elements
-  pub known : (j : ℕ) → j < s.columns → get_or columns j 0 < elements
+-- Columns are elements.
+abbrev pub AllElements : List ℕ → Type 0
+AllElements columns = (k : ℕ) → k < length columns → get_or columns k 0 < elements
 
 -- ---- the column line
 
 -- The columns are named: the state after the line.
-pub record NamedAs (l columns : List ℕ) (s : CodeState) : Type 0 where
-  pub is : columns_from [] (fields l) ≡ next (state_of s columns)
-  pub known : Known s columns
+abbrev pub NamedCase : List ℕ → Result (List ℕ) Fault → Type 0
+NamedCase l (Ok columns) = columns_from [] (fields l) ≡ next (record { need = Need.Row; columns = columns; radar = false })
+NamedCase l (Err f) = columns_from [] (fields l) ≡ bad f.kind f.place
 
-abbrev pub NamedCase : List ℕ → List ℕ → Result CodeState Fault → Type 0
-NamedCase l columns (Ok s) = NamedAs l columns s
-NamedCase l columns (Err f) = columns_from [] (fields l) ≡ bad f.kind f.place
-
-pub record NamedIs (l columns : List ℕ) (r : Result CodeState Fault) : Type 0 where
-  pub case : NamedCase l columns r
+pub record NamedIs (l : List ℕ) (r : Result (List ℕ) Fault) : Type 0 where
+  pub case : NamedCase l r
 
 -- ---- the fields of a data line
 
@@ -96,11 +91,6 @@ kind_by (Err f) before radar = Err f
 unfoldable pub held_by : Marks → Option Bool → Result Bool Fault
 held_by m before = kind_by (set_fault m.present m.wgs84 m.earth) before (is_radar_set m.present)
 
-pub record FieldsAsk (t columns : List ℕ) (from till : ℕ) : Type 0 where
-  pub lies : LineIn t from till (length columns)
-  pub few : length columns ≤ elements
-  pub known : (k : ℕ) → k < length columns → get_or columns k 0 < elements
-
 pub record FieldsGood (t columns : List ℕ) (noted : Row) (from till : ℕ) (m : Marks) : Type 0 where
   pub sound : field_fault 1 columns (fields (between t from till)) ≡ Ok tt
   pub marks : m ≡ marks_of (row_of columns (fields (between t from till)))
@@ -119,11 +109,6 @@ noted_in x element start size =
     cond (eqb size 0) x (record { present = x.present; starts = set x.starts element start; lengths = set x.lengths element size })
 
 -- ---- a data line
-
-pub record RowAsks (t columns : List ℕ) (from till parts : ℕ) : Type 0 where
-  pub lies : LineIn t from till parts
-  pub few : length columns ≤ elements
-  pub known : (k : ℕ) → k < length columns → get_or columns k 0 < elements
 
 -- The data line is an observation, noted in the row.
 pub record RowGood (t columns : List ℕ) (noted : Row) (from till k : ℕ) (before : Option Bool) (kind : Bool) : Type 0 where
@@ -149,42 +134,36 @@ step_at t from till s columns k = step (state_of s columns) k (between t from ti
 
 -- The same of a line that does not begin with `#`.
 abbrev pub other_at : List ℕ → ℕ → ℕ → CodeState → List ℕ → ℕ → Step
-other_at t from till s columns k = other s.need (take s.columns columns) s.radar k (between t from till)
+other_at t from till s columns k = other s.need columns s.radar k (between t from till)
 
 -- A right version line.
 abbrev pub opened_to : Need → Result CodeState Fault
-opened_to Need.Version = Ok (record { need = Need.Columns; columns = 0; radar = false })
+opened_to Need.Version = Ok (record { need = Need.Columns; radar = false })
 opened_to Need.Columns = Err (at BlockUnfinished 0)
 opened_to Need.Row = Err (at BlockUnfinished 0)
-opened_to Need.Nothing = Ok (record { need = Need.Columns; columns = 0; radar = false })
+opened_to Need.Nothing = Ok (record { need = Need.Columns; radar = false })
 
 -- The line is a version line or a column line: the state after it; the row is as it was.
 pub record NextIs (columns : List ℕ) (x y : Row) (taken : Step) (s : CodeState) : Type 0 where
   pub is : taken ≡ next (state_of s columns)
-  pub known : Known s columns
   pub same : y ≡ x
 
 -- The line is an observation, noted in the row; the columns are as they were.
-pub record RowTaken (t columns columns' : List ℕ) (noted : Row) (from till k : ℕ) (s : CodeState) (taken : Step) (radar : Bool) : Type 0 where
+pub record RowTaken (t columns columns' : List ℕ) (noted : Row) (from till k : ℕ) (taken : Step) (radar : Bool) : Type 0 where
   pub got : Observation
   pub is : taken ≡ row got
   pub kind_is : radar ≡ is_radar got
   pub few : k < row_limit
-  pub notes : Noted t noted got (starts_of (take s.columns columns) (fields (between t from till)) from)
+  pub notes : Noted t noted got (starts_of columns (fields (between t from till)) from)
   pub same : columns' ≡ columns
 
-abbrev pub LineCase : List ℕ → List ℕ → List ℕ → Row → Row → ℕ → ℕ → ℕ → CodeState → Step → Result Taken Fault → Type 0
-LineCase t columns columns' x y from till k old taken (Ok (Taken.Next s)) = NextIs columns' x y taken s
-LineCase t columns columns' x y from till k old taken (Ok (Taken.Noted radar)) = RowTaken t columns columns' y from till k old taken radar
-LineCase t columns columns' x y from till k old taken (Err f) = taken ≡ bad f.kind f.place
+abbrev pub LineCase : List ℕ → List ℕ → List ℕ → Row → Row → ℕ → ℕ → ℕ → Step → Result Taken Fault → Type 0
+LineCase t columns columns' x y from till k taken (Ok (Taken.Next s)) = NextIs columns' x y taken s
+LineCase t columns columns' x y from till k taken (Ok (Taken.Noted radar)) = RowTaken t columns columns' y from till k taken radar
+LineCase t columns columns' x y from till k taken (Err f) = taken ≡ bad f.kind f.place
 
-pub record TookLine (t columns columns' : List ℕ) (x y : Row) (from till k : ℕ) (old : CodeState) (taken : Step) (r : Result Taken Fault) : Type 0 where
-  pub case : LineCase t columns columns' x y from till k old taken r
-
-pub record LineAsks (t columns : List ℕ) (from till parts : ℕ) (s : CodeState) : Type 0 where
-  pub lies : LineIn t from till parts
-  pub wide : elements ≤ length columns
-  pub known : Known s columns
+pub record TookLine (t columns columns' : List ℕ) (x y : Row) (from till k : ℕ) (taken : Step) (r : Result Taken Fault) : Type 0 where
+  pub case : LineCase t columns columns' x y from till k taken r
 
 -- ---- the whole text
 

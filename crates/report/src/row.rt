@@ -1,9 +1,10 @@
 // A data line: its fields one by one, and what its observation must hold.
-ghost use Rattle.std.specs.Prelude.{◌≡◌, ◌<◌};
+ghost use Rattle.std.specs.Prelude.{◌≡◌, ◌<◌, length as length_of};
 ghost use Rattle.element.specs.Table.{elements};
-ghost use Rattle.report.specs.Inner.{mark_on, held_by, noted_in, FieldsAsk, FieldsAre, RowAsks, RowIs};
+ghost use Rattle.report.specs.Inner.{mark_on, held_by, noted_in, LineIn, FieldsAre, RowIs};
 
 use crate::ROW_LIMIT;
+use crate::columns::Columns;
 use crate::index::Row;
 use crate::line::Line;
 use element::form;
@@ -23,12 +24,12 @@ pub struct Marks {
 pub(crate) fn data_line(
     report: &[u8],
     line: Line,
-    columns: &[u8],
+    columns: &Columns,
     row: &mut Row,
     k: usize,
     before: Option<bool>,
 ) -> Result<bool, Fault>
-    requires { RowAsks report.now columns.now line.from line.till line.fields }
+    requires { LineIn report.now line.from line.till line.fields }
     ensures { RowIs report.now columns.now row.new line.from line.till k before result }
 {
     if k >= ROW_LIMIT {
@@ -37,7 +38,7 @@ pub(crate) fn data_line(
             place: 0,
         });
     }
-    if line.fields != columns.len() {
+    if line.fields != columns.as_slice().len() {
         return Err(Fault {
             kind: Kind::FieldCountDiffers,
             place: 0,
@@ -65,14 +66,14 @@ fn held(marks: Marks, before: Option<bool>) -> Result<bool, Fault>
 }
 
 // The fields of a data line: the first fault, or the marks of its observation; where each value lies is noted in the row.
-fn take_fields(report: &[u8], line: Line, columns: &[u8], row: &mut Row) -> Result<Marks, Fault>
-    requires { FieldsAsk report.now columns.now line.from line.till }
+fn take_fields(report: &[u8], line: Line, columns: &Columns, row: &mut Row) -> Result<Marks, Fault>
+    requires { LineIn report.now line.from line.till (length_of columns.now) }
     ensures { FieldsAre report.now columns.now row.new line.from line.till result }
 {
     let text = &report[line.from..line.till];
     let mut marks = Marks::default();
     let mut at: usize = 0;
-    for (k, column) in columns.iter().enumerate() {
+    for (k, column) in columns.as_slice().iter().enumerate() {
         let field = text::lines::field_at(text, at);
         let start = field.value.start;
         let end = start + field.value.length;

@@ -15,7 +15,7 @@ pub returns-then-report-gt-TEXT_LIMIT : goal.returns-then-report-gt-TEXT_LIMIT
 returns-then-report-gt-TEXT_LIMIT c = read_long c.if-report-gt-TEXT_LIMIT.true (ap Err c.of_request.ensures)
 
 pub loop-line-init : goal.loop-line-init
-loop-line-init c = rw (begun c.default-state.result c.default-state.ensures) (read_start refl c.if-report-gt-TEXT_LIMIT.false c.requires)
+loop-line-init c = rw (begun c.default-state.result c.default-state.ensures, c.none-columns.ensures) (read_start c.if-report-gt-TEXT_LIMIT.false c.requires)
 
 pub returns-in_err-line : goal.returns-in_err-line
 returns-in_err-line c =
@@ -38,7 +38,7 @@ pub loop-line-preserved-in-Next : goal.loop-line-preserved-in-Next
 loop-line-preserved-in-Next c =
     let taken = c.take_line in
     read_next c.loop-line.invariant (line (goal.at.loop-line-preserved-in-Next c).In-Some) taken.ensures
-    taken.auto.columns c.slot_of-slot.ensures refl c.in-Ok.is c.in-Next.is
+    c.slot_of-slot.ensures refl c.in-Ok.is c.in-Next.is
 
 pub loop-line-smaller : goal.loop-line-smaller
 loop-line-smaller c =
@@ -49,7 +49,7 @@ pub loop-line-preserved : goal.loop-line-preserved
 loop-line-preserved c =
     let taken = c.take_line in
     read_row c.loop-line.invariant (line (goal.at.loop-line-preserved c).In-Some) taken.ensures
-    taken.auto.columns c.slot_of-slot.ensures refl c.in-Ok.is c.in-Noted.is
+    c.slot_of-slot.ensures refl c.in-Ok.is c.in-Noted.is
 
 pub returns : goal.returns
 returns c =
