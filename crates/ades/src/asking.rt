@@ -37,6 +37,6 @@ pub(crate) fn refusal(rt: &impl Print, word: &[u8]) -> Result<(), Stop> {
         return Err(Stop::Failed);
     };
     println!(rt; "refusal {}", refusal::number(kind))?;
-    refusals::print_all(rt, kind)?;
+    refusals::print_kind(rt, kind)?;
     Ok(())
 }

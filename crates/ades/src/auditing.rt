@@ -35,7 +35,7 @@ fn print_alone(rt: &impl Print, name: &[u8], report: &[u8], count: usize) -> io:
     sheet::print_packing(
         rt,
         report,
-        "2. Does the packed report hold the same observations in the same order? ",
+        b"2. Does the packed report hold the same observations in the same order? ",
     )
 }
 
@@ -75,6 +75,6 @@ fn print_compared(
     sheet::print_packing(
         rt,
         report,
-        "   Does its packed report hold the observations of the report, in the same order? ",
+        b"   Does its packed report hold the observations of the report, in the same order? ",
     )
 }

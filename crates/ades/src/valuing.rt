@@ -8,6 +8,6 @@ pub(crate) fn obey(rt: &impl Print, command: &[u8], report: &[u8]) -> Result<(),
     let asked = request::asked(rt, command)?;
     let answer = report::value(report, asked.observation, asked.element);
     let value = error::explained(rt, report, answer)?;
-    print_valued(rt, value, asked)?;
+    print_valued(rt, Ok(value), asked)?;
     Ok(())
 }

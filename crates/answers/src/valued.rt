@@ -1,16 +1,22 @@
 // A value as an exact number.
 use crate::shown::{Asked, print_asked};
+use refusal::Refusal;
 use std::io;
 use value::Value;
 use words::print;
 
 // Prints the value of an element of an observation, and what its numbers mean.
-pub fn print_valued(rt: &impl Print, value: Option<Value>, asked: Asked) -> io::Result<()> {
-    print::value_line(rt, Ok(value))?;
+pub fn print_valued(
+    rt: &impl Print,
+    answer: Result<Option<Value>, Refusal>,
+    asked: Asked,
+) -> io::Result<()> {
+    print::value_line(rt, answer)?;
     print_asked(rt, asked)?;
-    match value {
-        Some(value) => print_meaning(rt, value),
-        None => println!(rt; " is not there."),
+    match answer {
+        Ok(Some(value)) => print_meaning(rt, value),
+        Ok(None) => println!(rt; " is not there."),
+        Err(_) => Ok(()),
     }
 }
 

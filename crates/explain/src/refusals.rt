@@ -259,7 +259,7 @@ pub fn print_definition(rt: &impl Print, kind: Kind) -> io::Result<()> {
 }
 
 // Prints all that is said of a kind of refusal.
-pub fn print_all(rt: &impl Print, kind: Kind) -> io::Result<()> {
+pub fn print_kind(rt: &impl Print, kind: Kind) -> io::Result<()> {
     let words = words_of(kind);
     print_rule(rt, kind)?;
     println!(rt; "{}", words.advice)?;

@@ -60,7 +60,7 @@ fn print_proof_of_check(rt: &impl Print) -> io::Result<()> {
 }
 
 // Prints the answers about the packed report of a report, the first after a question; nothing for a refused one.
-pub fn print_packing(rt: &impl Print, report: &[u8], question: &str) -> io::Result<()> {
+pub fn print_packing(rt: &impl Print, report: &[u8], question: &[u8]) -> io::Result<()> {
     let mut cuts = [0u16; ROW_LIMIT];
     if let Ok(measured) = pack::measure(report, &mut cuts) {
         print_packed(rt, report, front(&cuts, measured.blocks), question)?;
@@ -69,11 +69,11 @@ pub fn print_packing(rt: &impl Print, report: &[u8], question: &str) -> io::Resu
 }
 
 // Prints the answers about the packed report that is written of a report by its cuts, the first after a question.
-fn print_packed(rt: &impl Print, report: &[u8], cuts: &[u16], question: &str) -> io::Result<()> {
+fn print_packed(rt: &impl Print, report: &[u8], cuts: &[u16], question: &[u8]) -> io::Result<()> {
     let mut output = [0u8; TEXT_LIMIT];
     if let Ok(length) = pack::write(report, cuts, &mut output) {
         let packed = front(&output, length);
-        print!(rt; "{question}")?;
+        print::bytes(rt, question)?;
         sameness::print_same(rt, report, packed)?;
         length::print_length(rt, report, packed)?;
     }
