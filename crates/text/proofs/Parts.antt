@@ -1,6 +1,6 @@
 -- Laws of parts of a text, of texts that are the same and of shapes, each in the form that a loop asks for.
 use Prim.Native.Nat.{ℕ, zero, suc, ◌≤◌, ◌<◌, zero-le, suc-le-suc}
-use mathlib.Core.Path.{◌≡◌, ◌∙◌, refl}
+use mathlib.Core.Path.{◌≡◌, ◌∙◌, refl, ap}
 use mathlib.Core.Bool.{Bool, true, false}
 use mathlib.Core.List.{List, [], ◌∷◌}
 use native.Mathlib.Nat.{not-suc-le-zero, le_of_suc-le-suc}
@@ -30,6 +30,10 @@ same_is [] [] e = refl
 same_is [] (b ∷ t) e = never e
 same_is (a ∷ s) [] e = never e
 same_is (a ∷ s) (b ∷ t) e = let p = both (eqb a b) (same s t) e in rw (eqb-true a b p.0, same_is s t p.1)
+
+-- Texts of different lengths are not the same.
+pub same_length : (s t : List ℕ) → (length s ≡ length t → ⊥) → same s t ≡ false
+same_length s t h = bools (same s t) (λ e. absurd (h (ap length (same_is s t e)))) (λ e. e)
 
 -- A text no shorter than the shape starts in it where each byte matches.
 pub starts_is : (p s : List ℕ) {b : Bool} → length p ≤ length s → b ≡ list_all (λ x. matches x.0 x.1) (zip p s) → b ≡ starts p s
