@@ -1,9 +1,9 @@
 -- Laws of the calendar: the parts of a date; the days before a year and before a month, worked out directly.
 use Prim.Native.Nat.{ℕ, zero, suc, ◌+◌, ◌-◌, ◌*◌, ◌/◌, ◌%◌, ◌≤◌, ◌<◌}
-use mathlib.Core.Path.{◌≡◌, refl, sym, subst}
+use mathlib.Core.Path.{◌≡◌, refl, sym, subst, ◌∙◌}
 use mathlib.Core.Bool.{Bool, true, false, cond, not, ◌&&◌, ◌||◌}
 use mathlib.Core.List.{List, [], ◌∷◌}
-use native.Mathlib.Nat.{add-div_right, mul-add-div_right, div-eq_of_lt, div-add-mod', mod-lt, zero-lt-suc}
+use native.Mathlib.Nat.{add-zero, add-div_right, mul-add-div_right, div-eq_of_lt, div-add-mod', mod-lt, zero-lt-suc}
 use native.Mathlib.Omega.{arith}
 use lib.Dec.{eqb, leb, eqb→eq, eqb-suc-zero, lit≤}
 use lib.ListN.{get_or}
@@ -150,6 +150,14 @@ pub months_direct : (leap : Bool) (month : ℕ) → 1 ≤ month → month ≤ 12
     → get_or month_starts (month - 1) 0 + cond (leap && leb 3 month) 1 0 ≡ month_days leap (month - 1)
 months_direct leap month low high =
     let e : month - 1 + 1 ≡ month = omega arith in rw e at (starts_right leap (month - 1) (omega arith))
+
+pub with_leap_day : (leap : Bool) (month : ℕ) → 1 ≤ month → month ≤ 12 → leap && leb 3 month ≡ true
+    → get_or month_starts (month - 1) 0 + 1 ≡ month_days leap (month - 1)
+with_leap_day leap month low high e = rw e at (months_direct leap month low high)
+
+pub without_leap_day : (leap : Bool) (month : ℕ) → 1 ≤ month → month ≤ 12 → leap && leb 3 month ≡ false
+    → get_or month_starts (month - 1) 0 ≡ month_days leap (month - 1)
+without_leap_day leap month low high e = sym (add-zero _) ∙ rw e at (months_direct leap month low high)
 
 -- The leap day as the code counts it.
 pub months_counted : (leap : Bool) (month : ℕ) → 1 ≤ month → month ≤ 12
