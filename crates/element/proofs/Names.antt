@@ -60,6 +60,15 @@ order_test index = leb (get_or name_starts index 0) (get_or name_starts (index +
 inside_test : ℕ → Bool
 inside_test index = leb (get_or name_starts (index + 1) 0) (length all_names)
 
+-- The start is a byte.
+start_test : ℕ → Bool
+start_test place = ltb (get_or name_starts place 0) 256
+
+-- Every start is a byte.
+pub start_small : (place : ℕ) → place < elements + 1 → get_or name_starts place 0 < 256
+unfolding start_test
+start_small place h = ltb-true _ _ (T_true _ (below start_test (elements + 1) tt place h))
+
 -- The part is the name, it is as long as the name, and the starts are in order.
 module _ (index : ℕ) (h : index < elements) where
   pub cut_is : cut index ≡ name_of index

@@ -7,6 +7,9 @@ use native.Mathlib.Nat.{pow-suc, div-div-eq-div-mul}
 use native.Mathlib.Omega.{arith}
 use lib.Arith.{mod-mul}
 use lib.Dec.{eqb, lit<}
+use lib.ListN.{get_or}
+use mir.Syntax.{w64}
+use mir.Val.{Fits}
 use Rattle.std.specs.Prelude.{Option, Some, None, Result, Ok, Err, MatchOption, find}
 use Rattle.std.specs.List.{list_any}
 use Rattle.std.specs.Option.{option_or}
@@ -118,6 +121,11 @@ foreign_is doppler holds a o c =
     counted true = tt
     counted false = tt
 
+-- One of two small numbers has a next one.
+pub chosen_fits : (t : Bool) (a b n : ℕ) → a < 64 → b < 64 → n ≡ cond t a b → Fits w64 (n + 1)
+chosen_fits true a b n h k e = record { fits = omega arith }
+chosen_fits false a b n h k e = record { fits = omega arith }
+
 -- What is sound came out of the first case.
 sound_test : (t : Bool) (rest : Result Unit Fault) → cond t rest (Err (at ElementMissing 1)) ≡ Ok tt → t ≡ true
 sound_test true rest e = refl
@@ -157,3 +165,8 @@ identified o e = fault_identified (is_held o) (is_wgs84 o) (is_earth o) e
 pub optical_sound : (o : Observation) → is_radar o ≡ false → observation_fault o ≡ Ok tt → optical_fault (is_held o) (is_wgs84 o) (is_earth o) ≡ Ok tt
 unfolding observation_fault fault_in is_radar
 optical_sound o n e = rw n at e
+
+-- Its first four values are not all empty.
+pub identified_value : (o : Observation) → observation_fault o ≡ Ok tt → ((c : ℕ) → c < 4 → get_or o c [] ≡ []) → ⊥
+unfolding holds_any
+identified_value o e none = never (rw (none 0 (lit< tt), none 1 (lit< tt), none 2 (lit< tt), none 3 (lit< tt)) at (identified o e))

@@ -9,8 +9,8 @@ use native.Mathlib.Omega.{arith}
 use lib.Bits.{bit_or, or_block, or_zero_r}
 use lib.Count.{ones, ones_step, ones-le, count_trailing_zeros, under}
 use lib.Dec.{eqb, lit<}
-use lib.ListN.{length, get_or, take, drop, set, drop_of_length-le, get_or-map}
-use lib.Seq.{drop-cons, drop-drop, drop-nil}
+use lib.ListN.{length, get_or, take, drop, set, replicate, drop_of_length-le, get_or-map}
+use lib.Seq.{set-get_or, drop-cons, drop-drop, drop-nil}
 use mir.Syntax.{w32, w64}
 use mir.Val.{Fits}
 use Rattle.element.specs.Set.{has, length_if, bytes_in, name_lengths, name_bytes}
@@ -186,6 +186,12 @@ pub bit_small : (t : Bool) → bit t < 2
 bit_small true = lit< tt
 bit_small false = lit< tt
 
+-- Nothing is in the set of an observation without values.
+pub set_blank : (n : ℕ) → set_of (replicate n []) ≡ 0
+unfolding set_of
+set_blank zero = refl
+set_blank (suc n) = rw (set_blank n)
+
 -- A set has a bit for each place of the observation at most.
 pub set_below : (o : Observation) → set_of o < 2 ^ length o
 unfolding set_of
@@ -220,6 +226,10 @@ set_mark (w ∷ o) (suc c) v h p =
     ap (λ (n : ℕ). n * 2 + bit (is_present w)) (set_mark o c v (omega arith) p)
     ∙ ap (λ (n : ℕ). bit_or (set_of o) (2 ^ c) * 2 + n) (sym (or_zero_r (bit (is_present w))))
     ∙ sym (ap (bit_or (set_of o * 2 + bit (is_present w))) e ∙ or_block 1 (set_of o) (2 ^ c) (bit (is_present w)) 0 (bit_small (is_present w)) (lit< tt))
+
+-- An absent value put where nothing was changes nothing.
+pub set_same : (o : Observation) (c : ℕ) → get_or o c [] ≡ [] → set_of (set o c []) ≡ set_of o
+set_same o c e = ap set_of (rw e at (set-get_or o c []))
 
 -- A bit is 1 where its test holds.
 bit_test : (t : Bool) → eqb (bit t) 1 ≡ t
