@@ -24,10 +24,26 @@ use Rattle.element.specs.Observation.{is_present, bit}
 use Rattle.element.proofs.Sets.{has_set}
 use Rattle.report.specs.Report.{Outcome, accepted, refused, read}
 use Rattle.report.specs.Starts.{starts_in}
-use Rattle.report.specs.Answers.{is_observation, is_element, value_at, start_at, shown_of, showing_paper, showing_answer, exact, valued_answer}
-use Rattle.report.specs.Index.{row_at, Noted, AcceptedIs, IndexIs}
+use Rattle.report.specs.Answers.{checked_paper, checked_answer, is_observation, is_element, value_at, start_at, shown_of, showing_paper, showing_answer, exact, valued_answer}
+use Rattle.report.specs.Index.{row_at, Noted, AcceptedIs, IndexCase, IndexIs}
 use Rattle.report.specs.Inner.{shown_in, LocatedIs}
 use Rattle.report.specs.declared.index.Row.{Row}
+
+-- The answer to a check is what the report reads as.
+pub checked_is : {t : List ℕ} {first room : ℕ} {x : List Row} {r : Result ℕ Refusal} → IndexIs t first room x r → checked_paper r ≡ checked_answer (read t)
+checked_is {t} {first} {room} {x} {r} i = go r i.case
+  where
+    go : (r : Result ℕ Refusal) → IndexCase t first room x r → checked_paper r ≡ checked_answer (read t)
+    go (Ok k) a = rw (a.is, a.count)
+    go (Err y) e = rw e
+
+-- Where there is no room for a row, nothing of the lists matters.
+pub unnoted : {t : List ℕ} {first : ℕ} {x : List Row} {r : Result ℕ Refusal} → IndexIs t first 0 x r → {first' room' : ℕ} {y : List Row} → room' ≡ 0 → IndexIs t first' room' y r
+unnoted {t} {first} {x} {r} i {first'} {room'} {y} e = record { case = go r i.case }
+  where
+    go : (r : Result ℕ Refusal) → IndexCase t first 0 x r → IndexCase t first' room' y r
+    go (Ok k) a = record { observations = a.observations; is = a.is; count = a.count; few = a.few; noted = λ j h. absurd (omega arith) }
+    go (Err z) q = q
 
 pub accepted_of : {t : List ℕ} {first room : ℕ} {x : List Row} {r : Result ℕ Refusal} → IndexIs t first room x r → {k : ℕ} → r ≡ Ok k → AcceptedIs t first room x k
 accepted_of i e = rw e at i.case
