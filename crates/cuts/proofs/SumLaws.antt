@@ -21,6 +21,29 @@ total_from a (x ∷ l) = omega (arith, total_from (a + x) l)
 pub total_sum : (l : List ℕ) (n : ℕ) → n ≡ sum l → n ≡ total l
 total_sum l n e = omega (arith, total_from 0 l)
 
+-- One number more at the end.
+total_snoc : (l : List ℕ) (n : ℕ) → total (l ++ (n ∷ [])) ≡ total l + n
+unfolding total
+total_snoc [] n = omega arith
+total_snoc (x ∷ l) n = omega (arith, total_snoc l n)
+
+-- The first k + 1 numbers together.
+pub total_take : (l : List ℕ) (k : ℕ) → k < length l → total (take (suc k) l) ≡ total (take k l) + get_or l k 0
+total_take l k h = rw (take-suc l k 0, total_snoc)
+
+-- A part is no more than the whole.
+pub total_take_le : (l : List ℕ) (k : ℕ) → total (take k l) ≤ total l
+unfolding total
+total_take_le l zero = omega arith
+total_take_le [] (suc k) = omega arith
+total_take_le (x ∷ l) (suc k) = omega (arith, total_take_le l k)
+
+pub total_drop_le : (l : List ℕ) (k : ℕ) → total (drop k l) ≤ total l
+unfolding total
+total_drop_le l zero = omega arith
+total_drop_le [] (suc k) = omega arith
+total_drop_le (x ∷ l) (suc k) = omega (arith, total_drop_le l k)
+
 -- The end of a list as the code lends it.
 abbrev pub end : {A : Type 0} → List A → ℕ → List A
 end l j = take (length l - j) (drop j l)
