@@ -22,6 +22,13 @@ record_long n bytes h =
     let w = r.within in
     (ap length (sym r.is) ∙ record_length (fields_of bytes), omega (arith, r.number_is, w.first), omega (arith, r.number_is, w.last))
 
+-- So a short record is bad, and so is one past the limit.
+pub short_bad : (n : ℕ) (bytes : List ℕ) → length bytes < record_size → is_record n bytes ≡ false
+short_bad n bytes h = bools (is_record n bytes) (λ e. absurd (omega (arith, (record_long n bytes e).0))) (λ e. e)
+
+pub past_bad : (n : ℕ) (bytes : List ℕ) → row_limit < n → is_record n bytes ≡ false
+past_bad n bytes h = bools (is_record n bytes) (λ e. absurd (omega (arith, (record_long n bytes e).2))) (λ e. e)
+
 -- What the search finds: it names no record and each could have been written, or it names the first that could not.
 pub record Found (list : List ℕ) (from to answer : ℕ) : Type 0 where
   pub before : (k : ℕ) → from ≤ k → k < to → (answer ≡ 0 → ⊥) → k < answer → Writable k (record_at k list)

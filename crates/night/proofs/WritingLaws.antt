@@ -3,7 +3,7 @@ use Prim.Native.Nat.{ℕ, ◌+◌, ◌-◌, ◌≤◌, min}
 use mathlib.Core.Path.{◌≡◌, refl, ap, ◌∙◌}
 use mathlib.Core.List.{List, [], ◌∷◌, ◌++◌, append-nil}
 use native.Mathlib.Omega.{arith}
-use lib.ListN.{length, take, drop, replicate, length-take, length-drop, drop_of_length-le}
+use lib.ListN.{length, take, drop, set, replicate, length-take, length-drop, drop_of_length-le}
 use lib.Seq.{take_all}
 use Rattle.text.specs.Lines.{blank}
 use Rattle.text.specs.Output.{over, put_over, low_bytes}
@@ -41,6 +41,16 @@ pub station_over : (output station : List ℕ) {count : ℕ} {blanks bytes : Lis
 station_over output station room few fill copy =
     let four : length (take 4 output) ≡ 4 = simp length-take (omega arith) in
     rw (copy, few, fill, four) (spread output station room)
+
+-- Four bytes stored one by one.
+pub four_over : (output : List ℕ) (a b c d : ℕ) → 4 ≤ length output
+    → set (set (set (set output 0 a) 1 b) 2 c) 3 d ≡ over (a ∷ b ∷ c ∷ d ∷ []) output
+unfolding over
+four_over [] a b c d h = absurd (omega arith)
+four_over (w ∷ []) a b c d h = absurd (omega arith)
+four_over (w ∷ x ∷ []) a b c d h = absurd (omega arith)
+four_over (w ∷ x ∷ y ∷ []) a b c d h = absurd (omega arith)
+four_over (w ∷ x ∷ y ∷ z ∷ output) a b c d h = refl
 
 -- A text was written over the start of an output, and the rest of it is lent and comes back.
 module _ (xs d D : List ℕ) (a : ℕ) (is : D ≡ over xs d) (long : length xs ≡ a) where
