@@ -8,7 +8,7 @@ use native.Mathlib.Omega.{arith}
 use lib.Bits.{bit_or}
 use lib.ListN.{length, get_or}
 use borrow.Author.Tests.{eq-eqb, ne_eqb, le-leb, lt-leb}
-use Rattle.std.specs.List.{fold}
+use Rattle.element.specs.Set.{joined}
 use Rattle.cuts.specs.Block.{most_rows, rows_of, total, union, value_bytes, row_count}
 use Rattle.account.specs.Account.{closed, accounted}
 
@@ -17,8 +17,8 @@ pub cells_small : (rows columns : ℕ) → rows ≤ most_rows → columns ≤ 64
 cells_small rows columns h g = omega (arith, mul-le-mul h g)
 
 -- The elements of rows are those of their sets.
-pub union_is : (set : ℕ) (sets sizes : List ℕ) → length sizes ≡ length sets → union set (rows_of sets sizes) ≡ fold bit_or set sets
-unfolding union
+pub union_is : (set : ℕ) (sets sizes : List ℕ) → length sizes ≡ length sets → union set (rows_of sets sizes) ≡ joined set sets
+unfolding union joined
 union_is set [] sizes e = refl
 union_is set (s ∷ sets) [] e = absurd (omega arith)
 union_is set (s ∷ sets) (size ∷ sizes) e = union_is (bit_or set s) sets sizes (omega arith)
@@ -52,7 +52,7 @@ none_accounted sets sizes (inl h) = rw (lt-leb (length sets) most_rows h)
 none_accounted sets sizes (inr h) = rw (le-leb (length sets) most_rows h.0, ne_eqb (length sizes) (length sets) h.1)
 
 -- Else it is that of all.
-pub all_accounted : (sets sizes : List ℕ) → length sets ≤ most_rows → length sizes ≡ length sets → closed (fold bit_or 0 sets) (total sizes) (length sets) ≡ accounted sets sizes
+pub all_accounted : (sets sizes : List ℕ) → length sets ≤ most_rows → length sizes ≡ length sets → closed (joined 0 sets) (total sizes) (length sets) ≡ accounted sets sizes
 unfolding accounted
 all_accounted sets sizes few same =
     rw (le-leb (length sets) most_rows few, eq-eqb (length sizes) (length sets) same, rows_counted sets sizes same, union_is 0 sets sizes same, values_are sets sizes same)

@@ -2,8 +2,6 @@
 #![tactic(auto)]
 
 ghost use Rattle.std.specs.Prelude.{◌≡◌, ◌≤◌, length};
-ghost use Rattle.std.specs.Int.Bits.{bit_or};
-ghost use Rattle.std.specs.List.{fold};
 ghost use Rattle.cuts.specs.Block.{most_rows, total};
 ghost use Rattle.account.specs.Account.{value_limit, closed, accounted, alike, of_one_kind};
 
@@ -31,7 +29,7 @@ pub fn account(sets: &[u64], sizes: &[u32]) -> Block
     if MOST_ROWS < sets.len() || sizes.len() != sets.len() {
         return close(0, 0, 0);
     }
-    close(union(sets), total(sizes), sets.len() as u64)
+    close(set::join(sets), total(sizes), sets.len() as u64)
 }
 
 // The account of a block from its set of elements, the bytes of its values and the number of its rows.
@@ -49,13 +47,6 @@ fn close(set: u64, values: u64, rows: u64) -> Block
         values,
         bytes: 15 + names + columns + values + rows * columns,
     }
-}
-
-// The elements of these sets together.
-fn union(sets: &[u64]) -> u64
-    ensures { result ≡ fold bit_or 0 sets.now }
-{
-    sets.iter().fold(0, |all, set| all | *set)
 }
 
 // All sizes together.

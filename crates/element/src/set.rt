@@ -1,7 +1,7 @@
 // Sets of elements: bit e stands for index e.
 ghost use Rattle.std.specs.Prelude.{◌≡◌, ◌≤◌, ◌<◌};
 ghost use Rattle.std.specs.Int.Count.{ones};
-ghost use Rattle.element.specs.Set.{has, length_if, bytes_in, name_bytes};
+ghost use Rattle.element.specs.Set.{has, joined, length_if, bytes_in, name_bytes};
 
 use crate::ELEMENTS;
 use crate::name::length_at;
@@ -14,6 +14,14 @@ pub fn has(set: u64, index: usize) -> bool
     ensures { result ≡ has set index }
 {
     index < 64 && (set >> index) % 2 == 1
+}
+
+// The set of the elements that are in one of the sets at least.
+#[tactic(auto, unfolding(crate::specs::Set::joined))]
+pub fn join(sets: &[u64]) -> u64
+    ensures { result ≡ joined 0 sets.now }
+{
+    sets.iter().fold(0, |all, set| all | *set)
 }
 
 // How many elements the set has.

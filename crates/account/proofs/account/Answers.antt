@@ -11,4 +11,4 @@ pub close-requires-2 : goal.close-requires-2
 close-requires-2 c = (omega (arith, c.total.ensures, sum_small c.args.sizes.now (λ k. (c.type_inv.sizes k).fits)), omega arith)
 
 pub returns : goal.returns
-returns c = c.close-2.ensures ∙ rw (c.union.ensures, c.total.ensures) (all_accounted c.args.sets.now c.args.sizes.now (omega arith) c.if-sizes-sets.false)
+returns c = c.close-2.ensures ∙ rw (c.join.ensures, c.total.ensures) (all_accounted c.args.sets.now c.args.sizes.now (omega arith) c.if-sizes-sets.false)
