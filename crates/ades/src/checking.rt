@@ -1,5 +1,5 @@
 // `ades check`, `ades faults` and `ades list`: how many observations a report has, its faults, its observations.
-use crate::command::{PARTING, arguments};
+use crate::command::{arguments, rest, word};
 use crate::file::SPACE;
 use crate::status::{Status, Stop};
 use crate::{error, file};
@@ -10,10 +10,13 @@ use words::print;
 
 // Obeys `check FILE..`; the worst outcome counts.
 pub(crate) fn obey(rt: &impl Runtime, command: &[u8]) -> Result<(), Stop> {
-    let several = 1 < arguments(command);
+    let files = arguments(command);
+    let several = 1 < files;
     let mut worst = Status::Done;
-    for name in command.split(|byte| *byte == PARTING).skip(1) {
-        worst = worst.max(Status::of(check_file(rt, name, several))?);
+    let mut names = rest(command);
+    for _ in 0..files {
+        worst = worst.max(Status::of(check_file(rt, word(names, 0), several))?);
+        names = rest(names);
     }
     worst.outcome()
 }

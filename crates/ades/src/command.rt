@@ -1,6 +1,6 @@
 // A command: its words, parted by bytes 0.
-ghost use Rattle.std.specs.Prelude.{◌≡◌, ◌≤◌, length};
-ghost use Rattle.inspect.specs.Part.{part_of, marks_in};
+ghost use Rattle.std.specs.Prelude.{◌≡◌, ◌≤◌, drop, length};
+ghost use Rattle.inspect.specs.Part.{after_mark, part_of, marks_in};
 
 use inspect::part;
 use std::env::{Env, FillError};
@@ -9,7 +9,7 @@ use text::part::{front, tail};
 use words::print;
 
 // The byte between two words.
-pub(crate) const PARTING: u8 = 0;
+const PARTING: u8 = 0;
 
 // The program's arguments as a command, put into the space; none where they do not fit.
 pub(crate) fn gather<'a>(rt: &impl Env, space: &'a mut [u8]) -> Option<&'a [u8]> {
@@ -59,7 +59,9 @@ pub fn arguments(command: &[u8]) -> usize
 }
 
 // The command that stands after the first word.
-pub(crate) fn rest(command: &[u8]) -> &[u8] {
+pub(crate) fn rest(command: &[u8]) -> &[u8]
+    ensures { result.now ≡ drop (after_mark command.now 0 0) command.now }
+{
     tail(command, part::after(command, 0, PARTING))
 }
 
@@ -74,10 +76,12 @@ pub(crate) fn part_words(text: &mut [u8]) {
 
 // Prints a command as it was given.
 pub(crate) fn echo(rt: &impl Print, command: &[u8]) -> io::Result<()> {
+    let mut words = command;
     print!(rt; "ades")?;
-    for word in command.split(|byte| *byte == PARTING) {
+    for _ in 0..=arguments(command) {
         print!(rt; " ")?;
-        print::bytes(rt, word)?;
+        print::bytes(rt, word(words, 0))?;
+        words = rest(words);
     }
     print::line_end(rt)
 }

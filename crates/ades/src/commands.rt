@@ -1,4 +1,5 @@
 // The commands: one table, from which they are found, their usage is told and the help is printed.
+use inspect::table::{Named, first_named};
 use std::{fmt, io};
 
 // A command: `run`, or one that a file of commands may hold.
@@ -210,9 +211,17 @@ impl fmt::Display for Usage {
     }
 }
 
+impl Named for Usage {
+    ghost name_of = { λ usage. usage.name.now };
+
+    fn name(&self) -> &[u8] {
+        self.name.as_bytes()
+    }
+}
+
 // How the command of a name is used, if there is one.
 pub(crate) fn find(name: &[u8]) -> Option<&'static Usage> {
-    COMMANDS.iter().find(|usage| usage.name.as_bytes() == name)
+    first_named(&COMMANDS, name)
 }
 
 // Prints how every command is used, and what it answers.

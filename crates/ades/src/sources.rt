@@ -1,8 +1,7 @@
 // The files that a command names after its first argument: reports, read one after the other as one text.
-use crate::command::{PARTING, rest};
+use crate::command::{arguments, rest, word};
 use crate::file;
 use crate::status::Stop;
-use inspect::part;
 use report::ROW_LIMIT;
 use sheet::sources::Sources;
 use std::rt::Runtime;
@@ -17,12 +16,12 @@ pub(crate) fn read<'a>(
     lengths: &'a mut [usize; ROW_LIMIT],
 ) -> Result<Sources<'a>, Stop> {
     let names = rest(rest(command));
-    let files = part::count(names, PARTING) + 1;
+    let files = arguments(names) + 1;
     if ROW_LIMIT < files {
         println!(rt; "error too many files: at most {ROW_LIMIT}")?;
         return Err(Stop::Failed);
     }
-    let total = read_files(rt, names, space, lengths)?;
+    let total = read_files(rt, names, space, &mut lengths[..files])?;
     let texts = front(space, total);
     check(rt, texts, b"the files together, as one text")?;
     Ok(Sources {
@@ -40,9 +39,11 @@ fn read_files(
     lengths: &mut [usize],
 ) -> Result<usize, Stop> {
     let mut total: usize = 0;
-    for (name, length) in names.split(|byte| *byte == PARTING).zip(lengths.iter_mut()) {
-        *length = read_after(rt, name, total, space)?;
+    let mut left = names;
+    for length in lengths {
+        *length = read_after(rt, word(left, 0), total, space)?;
         total = total.saturating_add(*length);
+        left = rest(left);
     }
     Ok(total)
 }

@@ -2,13 +2,15 @@
 use element::ELEMENTS;
 use element::name::put_whole;
 use element::table::LONGEST;
+use inspect::table::{Named, first_named};
 use std::io;
 use text::part::front;
 use words::print;
 
-// What is said of an element: what a value may be, which refusals one meets, what it is as a number, what the element needs beside it, and
-// which definition states the rule.
+// What is said of an element, by its name: what a value may be, which refusals one meets, what it is as a number, what the element needs
+// beside it, and which definition states the rule.
 struct Words {
+    name: &'static str,
     rule: &'static str,
     refused: &'static str,
     value: &'static str,
@@ -32,10 +34,10 @@ const COVARIANCE: &str = "`covariance` (crates/value/specs/Covariance.antt)";
 const COORDINATE: &str =
     "a decimal: perhaps a sign, then at most 13 bytes, digits and perhaps a point, which may come first or last";
 
-// What is said of each element, by its number less one.
+// What is said of each element.
 static WORDS: [Words; ELEMENTS] = [
-    // permID
     Words {
+        name: "permID",
         rule: "a number from 1 to 61999999 without leading zero; or a comet's: 1 to 6 digits without leading zero, P or D, perhaps a \
             fragment as -A or -AB",
         refused: "9; 10 above 61999999 in eight digits",
@@ -43,8 +45,8 @@ static WORDS: [Words; ELEMENTS] = [
         company: "optical: one of permID, provID, artSat and trkSub is needed; radar: permID or provID is needed",
         definition: "`permID` (crates/value/specs/Designation.antt)",
     },
-    // provID
     Words {
+        name: "provID",
         rule: "a minor planet, as 2016 AZ6: four digits, a blank, two capitals, perhaps a number from 1 to 61999; or a comet, as C/1996 \
             J1-A",
         refused: "9; 10 for a number above 61999 in five digits",
@@ -52,64 +54,64 @@ static WORDS: [Words; ELEMENTS] = [
         company: "optical: one of permID, provID, artSat and trkSub is needed; radar: permID or provID is needed",
         definition: "`provID` (crates/value/specs/Designation.antt)",
     },
-    // artSat
     Words {
+        name: "artSat",
         rule: "four digits, a minus, three digits, 1 to 3 capitals, as 1998-067A",
         refused: "9",
         value: "none",
         company: "optical: one of permID, provID, artSat and trkSub is needed; radar: foreign",
         definition: "`artSat` (crates/value/specs/Designation.antt)",
     },
-    // trkSub
     Words {
+        name: "trkSub",
         rule: "1 to 8 letters, digits, underscores or inner blanks",
         refused: "8, 9",
         value: "none",
         company: "optical: one of permID, provID, artSat and trkSub is needed; radar: foreign",
         definition: ALPHANUMERIC,
     },
-    // obsID
     Words {
+        name: "obsID",
         rule: "1 to 25 letters, digits, underscores or inner blanks",
         refused: "8, 9",
         value: "none",
         company: "as you like",
         definition: ALPHANUMERIC,
     },
-    // obsSubID
     Words {
+        name: "obsSubID",
         rule: "at most 25 bytes of any kind",
         refused: "8",
         value: "none",
         company: "as you like",
         definition: "`free` (crates/value/specs/Characters.antt)",
     },
-    // mode
     Words {
+        name: "mode",
         rule: "one of PHO ENC CCD MER MIC NOR VID PMT",
         refused: "10",
         value: "none",
         company: "optical: needed; radar: foreign",
         definition: "`mode` (crates/value/specs/Word.antt)",
     },
-    // stn
     Words {
+        name: "stn",
         rule: "3 or 4 letters, digits, underscores or inner blanks",
         refused: "8, 9",
         value: "none",
         company: "optical: needed; radar: foreign",
         definition: ALPHANUMERIC,
     },
-    // sys
     Words {
+        name: "sys",
         rule: "one of WGS84 ITRF IAU ICRF_AU ICRF_KM",
         refused: "10",
         value: "none",
         company: "optical: with ctr, pos1, pos2 and pos3, all or none, and needed with any of posCov11 to posCov33; radar: foreign",
         definition: "`system` (crates/value/specs/Word.antt)",
     },
-    // ctr
     Words {
+        name: "ctr",
         rule: "a whole number without leading zero, perhaps after a minus, no -0, at most 9 characters",
         refused: "8, 9",
         value: "a whole number",
@@ -117,64 +119,64 @@ static WORDS: [Words; ELEMENTS] = [
             WGS84; radar: foreign",
         definition: "`centre` (crates/value/specs/Centre.antt)",
     },
-    // pos1
     Words {
+        name: "pos1",
         rule: COORDINATE,
         refused: "8, 9",
         value: DIGITS,
         company: "optical: with sys, ctr, pos2 and pos3, all or none, and needed with any of posCov11 to posCov33; radar: foreign",
         definition: DECIMAL,
     },
-    // pos2
     Words {
+        name: "pos2",
         rule: COORDINATE,
         refused: "8, 9",
         value: DIGITS,
         company: "optical: with sys, ctr, pos1 and pos3, all or none, and needed with any of posCov11 to posCov33; radar: foreign",
         definition: DECIMAL,
     },
-    // pos3
     Words {
+        name: "pos3",
         rule: COORDINATE,
         refused: "8, 9",
         value: DIGITS,
         company: "optical: with sys, ctr, pos1 and pos2, all or none, and needed with any of posCov11 to posCov33; radar: foreign",
         definition: DECIMAL,
     },
-    // prog
     Words {
+        name: "prog",
         rule: "1 or 2 letters, digits, underscores or inner blanks",
         refused: "8, 9",
         value: "none",
         company: "as you like",
         definition: ALPHANUMERIC,
     },
-    // obsTime
     Words {
+        name: "obsTime",
         rule: "yyyy-mm-ddThh:mm:ss, perhaps a point and 1 to 6 digits, then Z; a date from year 0001 on, a time from 00:00:00 to 23:59:59",
         refused: "9; 10 where there is no such date or time",
         value: "the day, 0 on 1858-11-17, and the microseconds of the day",
         company: "needed",
         definition: "`obsTime` (crates/value/specs/Time.antt)",
     },
-    // rmsTime
     Words {
+        name: "rmsTime",
         rule: "a decimal above 0: at most 8 bytes, digits and perhaps a point, which may come first or last",
         refused: "8, 9; 10 for zero",
         value: DIGITS,
         company: "optical: as you like; radar: foreign",
         definition: DECIMAL,
     },
-    // ra
     Words {
+        name: "ra",
         rule: "degrees from 0 to below 360: up to 3 digits without leading zero, perhaps a point and up to 9 more; at least 1 digit",
         refused: "9; 10 from 360 on",
         value: "in units of 0.000000001 degree",
         company: "optical: needed; radar: foreign",
         definition: "`rightAscension` (crates/value/specs/Angle.antt)",
     },
-    // dec
     Words {
+        name: "dec",
         rule: "degrees from -90 to 90: perhaps a sign, up to 2 digits without leading zero, perhaps a point and up to 9 more; at least 1 \
             digit",
         refused: "9; 10 beyond 90",
@@ -182,160 +184,160 @@ static WORDS: [Words; ELEMENTS] = [
         company: "optical: needed; radar: foreign",
         definition: "`declination` (crates/value/specs/Angle.antt)",
     },
-    // rmsRA
     Words {
+        name: "rmsRA",
         rule: "a decimal above 0: at most 7 bytes, digits and perhaps a point, which may come first or last",
         refused: "8, 9; 10 for zero",
         value: DIGITS,
         company: "optical: needed with rmsCorr; radar: foreign",
         definition: DECIMAL,
     },
-    // rmsDec
     Words {
+        name: "rmsDec",
         rule: "a decimal above 0: at most 7 bytes, digits and perhaps a point, which may come first or last",
         refused: "8, 9; 10 for zero",
         value: DIGITS,
         company: "optical: needed with rmsCorr; radar: foreign",
         definition: DECIMAL,
     },
-    // rmsCorr
     Words {
+        name: "rmsCorr",
         rule: "a decimal from -1 to 1: perhaps a sign, then at most 13 bytes, digits and perhaps a point, which may come first or last",
         refused: "8, 9; 10 beyond 1",
         value: DIGITS,
         company: "optical: needs rmsRA and rmsDec; radar: foreign",
         definition: "`correlation` (crates/value/specs/Decimal.antt)",
     },
-    // astCat
     Words {
+        name: "astCat",
         rule: "1 to 8 letters, digits, underscores or inner blanks",
         refused: "8, 9",
         value: "none",
         company: "optical: needed; radar: foreign",
         definition: ALPHANUMERIC,
     },
-    // mag
     Words {
+        name: "mag",
         rule: "a decimal: perhaps a sign, then at most 6 bytes, digits and perhaps a point, which may come first or last",
         refused: "8, 9",
         value: DIGITS,
         company: "optical: needs band, and is needed with rmsMag, band, photCat and photAp; radar: foreign",
         definition: DECIMAL,
     },
-    // rmsMag
     Words {
+        name: "rmsMag",
         rule: "a decimal above 0: at most 6 bytes, digits and perhaps a point, which may come first or last",
         refused: "8, 9; 10 for zero",
         value: DIGITS,
         company: "optical: needs mag and band; radar: foreign",
         definition: DECIMAL,
     },
-    // band
     Words {
+        name: "band",
         rule: "1 to 3 letters, digits, underscores or inner blanks",
         refused: "8, 9",
         value: "none",
         company: "optical: needs mag, and is needed with mag, rmsMag, photCat and photAp; radar: foreign",
         definition: ALPHANUMERIC,
     },
-    // photCat
     Words {
+        name: "photCat",
         rule: "1 to 8 letters, digits, underscores or inner blanks",
         refused: "8, 9",
         value: "none",
         company: "optical: needs mag and band; radar: foreign",
         definition: ALPHANUMERIC,
     },
-    // photAp
     Words {
+        name: "photAp",
         rule: "a decimal above 0: at most 6 bytes, digits and perhaps a point, which may come first or last",
         refused: "8, 9; 10 for zero",
         value: DIGITS,
         company: "optical: needs mag and band; radar: foreign",
         definition: DECIMAL,
     },
-    // notes
     Words {
+        name: "notes",
         rule: "1 to 6 letters, digits, underscores or inner blanks",
         refused: "8, 9",
         value: "none",
         company: "as you like",
         definition: ALPHANUMERIC,
     },
-    // remarks
     Words {
+        name: "remarks",
         rule: "at most 300 bytes of any kind",
         refused: "8",
         value: "none",
         company: "as you like",
         definition: "`free` (crates/value/specs/Characters.antt)",
     },
-    // trx
     Words {
+        name: "trx",
         rule: "the station that sends: 3 or 4 letters, digits, underscores or inner blanks",
         refused: "8, 9",
         value: "none",
         company: "makes it radar, and is needed there",
         definition: ALPHANUMERIC,
     },
-    // rcv
     Words {
+        name: "rcv",
         rule: "the station that receives: 3 or 4 letters, digits, underscores or inner blanks",
         refused: "8, 9",
         value: "none",
         company: "makes it radar, and is needed there",
         definition: ALPHANUMERIC,
     },
-    // delay
     Words {
+        name: "delay",
         rule: "seconds, a decimal above 0: at most 14 bytes, digits and perhaps a point, which may come first or last",
         refused: "8, 9; 10 for zero",
         value: DIGITS,
         company: "makes it radar, and is needed there, with rmsDelay, where doppler is absent; foreign beside doppler",
         definition: DECIMAL,
     },
-    // rmsDelay
     Words {
+        name: "rmsDelay",
         rule: "microseconds, a decimal above 0: at most 6 bytes, digits and perhaps a point, which may come first or last",
         refused: "8, 9; 10 for zero",
         value: DIGITS,
         company: "makes it radar, and is needed there, with delay, where doppler is absent; foreign beside doppler",
         definition: DECIMAL,
     },
-    // doppler
     Words {
+        name: "doppler",
         rule: "Hz, a decimal: perhaps a sign, then at most 14 bytes, digits and perhaps a point, which may come first or last",
         refused: "8, 9",
         value: DIGITS,
         company: "makes it radar, and needs rmsDoppler there; delay and rmsDelay are foreign beside it",
         definition: DECIMAL,
     },
-    // rmsDoppler
     Words {
+        name: "rmsDoppler",
         rule: "Hz, a decimal above 0: at most 6 bytes, digits and perhaps a point, which may come first or last",
         refused: "8, 9; 10 for zero",
         value: DIGITS,
         company: "makes it radar, and is needed there with doppler; foreign without doppler",
         definition: DECIMAL,
     },
-    // frq
     Words {
+        name: "frq",
         rule: "MHz, a decimal above 0: at most 14 bytes, digits and perhaps a point, which may come first or last",
         refused: "8, 9; 10 for zero",
         value: DIGITS,
         company: "makes it radar, and is needed there",
         definition: DECIMAL,
     },
-    // com
     Words {
+        name: "com",
         rule: "0 or 1: 1 where the measure is reduced to the centre of mass, 0 where it is not",
         refused: "10",
         value: "none",
         company: "makes it radar, and is needed there",
         definition: "`flag` (crates/value/specs/Word.antt)",
     },
-    // posCov11
     Words {
+        name: "posCov11",
         rule: "the variance of pos1, in the square of its unit, in decimal or exponential form: perhaps a sign, then at most 20 bytes: \
             digits and perhaps a point, which may come first or last, perhaps followed by e or E, a sign or none and 1 to 3 digits",
         refused: "8, 9",
@@ -343,8 +345,8 @@ static WORDS: [Words; ELEMENTS] = [
         company: LOCATED,
         definition: COVARIANCE,
     },
-    // posCov12
     Words {
+        name: "posCov12",
         rule: "the covariance of pos1 and pos2, in the product of their units, in decimal or exponential form: perhaps a sign, then at \
             most 20 bytes: digits and perhaps a point, which may come first or last, perhaps followed by e or E, a sign or none and 1 to \
             3 digits",
@@ -353,8 +355,8 @@ static WORDS: [Words; ELEMENTS] = [
         company: LOCATED,
         definition: COVARIANCE,
     },
-    // posCov13
     Words {
+        name: "posCov13",
         rule: "the covariance of pos1 and pos3, in the product of their units, in decimal or exponential form: perhaps a sign, then at \
             most 20 bytes: digits and perhaps a point, which may come first or last, perhaps followed by e or E, a sign or none and 1 to \
             3 digits",
@@ -363,8 +365,8 @@ static WORDS: [Words; ELEMENTS] = [
         company: LOCATED,
         definition: COVARIANCE,
     },
-    // posCov22
     Words {
+        name: "posCov22",
         rule: "the variance of pos2, in the square of its unit, in decimal or exponential form: perhaps a sign, then at most 20 bytes: \
             digits and perhaps a point, which may come first or last, perhaps followed by e or E, a sign or none and 1 to 3 digits",
         refused: "8, 9",
@@ -372,8 +374,8 @@ static WORDS: [Words; ELEMENTS] = [
         company: LOCATED,
         definition: COVARIANCE,
     },
-    // posCov23
     Words {
+        name: "posCov23",
         rule: "the covariance of pos2 and pos3, in the product of their units, in decimal or exponential form: perhaps a sign, then at \
             most 20 bytes: digits and perhaps a point, which may come first or last, perhaps followed by e or E, a sign or none and 1 to \
             3 digits",
@@ -382,8 +384,8 @@ static WORDS: [Words; ELEMENTS] = [
         company: LOCATED,
         definition: COVARIANCE,
     },
-    // posCov33
     Words {
+        name: "posCov33",
         rule: "the variance of pos3, in the square of its unit, in decimal or exponential form: perhaps a sign, then at most 20 bytes: \
             digits and perhaps a point, which may come first or last, perhaps followed by e or E, a sign or none and 1 to 3 digits",
         refused: "8, 9",
@@ -393,9 +395,19 @@ static WORDS: [Words; ELEMENTS] = [
     },
 ];
 
-// What is said of an element, by its number; nothing where there is none.
+impl Named for Words {
+    ghost name_of = { λ words. words.name.now };
+
+    fn name(&self) -> &[u8] {
+        self.name.as_bytes()
+    }
+}
+
+// What is said of an element, by its number: the first that has its name; nothing where none has it.
 fn words_of(element: usize) -> Option<&'static Words> {
-    WORDS.get(element.checked_sub(1)?)
+    let mut name = [0u8; LONGEST];
+    let length = put_whole(element.checked_sub(1)?, &mut name);
+    first_named(&WORDS, front(&name, length))
 }
 
 // Prints the name of an element, by its number.

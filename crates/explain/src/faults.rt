@@ -2,7 +2,7 @@
 // answers; the others are help for a person. Each line is judged by itself, as the last line of a report of its block's column line, the
 // last row before it in the block that could be read, and itself. So 21 is told at each row where a block of the other kind has to begin.
 use crate::refusals;
-use crate::refusals::KINDS;
+use crate::refusals::REFUSALS;
 use inspect::oddity::{Oddity, first_oddity};
 use inspect::part;
 use refusal::{Fault, Kind, Refusal};
@@ -71,7 +71,7 @@ impl<'a> Known<'a> {
 
 // Prints the first fault of a report and those after it, and the rules that are broken.
 pub fn print_faults(rt: &impl Print, report: &[u8], first: Refusal) -> io::Result<()> {
-    let mut told = [false; KINDS];
+    let mut told = [false; REFUSALS];
     print_refusal(rt, first, &mut told)?;
     if 0 < first.line {
         list_rest(rt, report, first.line, &mut told)?;

@@ -1,5 +1,6 @@
 // Names that are no element's of this box: what may have been meant.
 use crate::elements;
+use inspect::table::first_named;
 use std::io;
 use suggestion::suggested;
 use words::print;
@@ -66,7 +67,7 @@ static OUTSIDE: [&str; 56] = [
 
 // Prints what a name that is no element's may stand for: an ADES element outside this box's scope, or a slip; nothing where it is neither.
 pub fn print_hint(rt: &impl Print, name: &[u8]) -> io::Result<()> {
-    if OUTSIDE.iter().any(|outside| outside.as_bytes() == name) {
+    if is_outside(name) {
         print::bytes(rt, name)?;
         println!(rt; " is an ADES element outside this box's scope.")?;
     } else if let Some(element) = suggested(name) {
@@ -75,4 +76,9 @@ pub fn print_hint(rt: &impl Print, name: &[u8]) -> io::Result<()> {
         println!(rt; " meant?")?;
     }
     Ok(())
+}
+
+// Whether a name is that of an element that ADES has and this box does not take.
+fn is_outside(name: &[u8]) -> bool {
+    first_named(&OUTSIDE, name).is_some()
 }

@@ -1,5 +1,5 @@
 // The refusals in words.
-ghost use Rattle.std.specs.Prelude.{◌≡◌, ◌<◌, IfSome};
+ghost use Rattle.std.specs.Prelude.{◌≡◌, ◌+◌, ◌<◌, IfSome};
 ghost use Rattle.refusal.specs.Number.{number_of};
 
 use crate::kinds;
@@ -8,8 +8,8 @@ use refusal::Kind;
 use report::{ROW_LIMIT, TEXT_LIMIT};
 use std::io;
 
-// How many kinds of refusals there are.
-pub(crate) const KINDS: usize = 24;
+// How many refusals there are.
+pub const REFUSALS: usize = 24;
 
 // What is said of a kind of refusal: the rule that is broken, what to do, what line and place are, which definition states the rule.
 struct Words {
@@ -22,7 +22,7 @@ struct Words {
 }
 
 // What is said of each kind, in the order of their numbers.
-static WORDS: [Words; KINDS] = [
+static WORDS: [Words; REFUSALS] = [
     Words {
         kind: Kind::TextTooLong,
         rule: "The text is longer than a report may be.",
@@ -222,7 +222,7 @@ static WORDS: [Words; KINDS] = [
 
 // Where a kind stands in the order of their numbers, counted from 0.
 pub(crate) fn index_of(kind: Kind) -> usize
-    ensures { result < 24 }
+    ensures { (result + 1 ≡ number_of kind) × (result < 24) }
 {
     kind as usize - 1
 }

@@ -7,7 +7,11 @@ pub mod oddity;
 pub mod part;
 pub mod table;
 
+use element::ELEMENTS;
 use report::ROW_LIMIT;
 
 // The rows of an index of a whole report: those of the report, and one for the reader's own use.
 pub const ROWS: usize = ROW_LIMIT + 1;
+
+// The entries of such an index: one for each element of each row.
+pub const ENTRIES: usize = ROWS * ELEMENTS;

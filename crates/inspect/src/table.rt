@@ -1,5 +1,7 @@
-// A table written as a text: rows between LFs, in a row entries between bars.
-ghost use Rattle.std.specs.Prelude.{◌≡◌};
+// Tables: entries in a list, found by their names; and a table written as a text: rows between LFs, in a row entries between bars.
+ghost use Rattle.std.specs.Prelude.{ℕ, List, ◌≡◌, find};
+ghost use Rattle.std.specs.Option.{option_copied};
+ghost use Rattle.text.specs.Part.{same};
 ghost use Rattle.inspect.specs.Tables.{entry_of, found_row};
 
 use crate::part;
@@ -24,4 +26,28 @@ pub fn row(table: &[u8], name: &[u8]) -> Option<usize>
         }
     }
     None
+}
+
+// What has a name, by which it is found in a table.
+pub trait Named {
+    ghost name_of: { Self → List ℕ };
+
+    // The name.
+    fn name(&self) -> &[u8]
+        ensures { result.now ≡ name_of self.now };
+}
+
+impl Named for &'static str {
+    ghost name_of = { λ text. text.now };
+
+    fn name(&self) -> &[u8] {
+        self.as_bytes()
+    }
+}
+
+// The first entry of a table that has a name; none where no entry has it.
+pub fn first_named<'a, T: Named>(table: &'a [T], name: &[u8]) -> Option<&'a T>
+    ensures { option_copied result ≡ find (λ entry. same (T.name_of entry) name.now) table.now }
+{
+    table.iter().find(|entry| same(entry.name(), name))
 }
