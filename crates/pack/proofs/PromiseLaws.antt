@@ -1,13 +1,7 @@
 -- Laws of the promises: what a refused report, cuts that are given, cuts that differ, and a plan with and without room come to.
 use Prim.Native.Nat.{ℕ, ◌≤◌, ◌<◌}
 use mathlib.Core.Path.{◌≡◌, refl, sym, ap, ◌∙◌}
-use mathlib.Core.Bool.{Bool, true, false, not, true≢false}
-use lib.Dec.{eqb}
-use Rattle.std.specs.Bool.{Decides}
-use Rattle.std.specs.Cmp.Lexicographic.{pointwise}
-use Rattle.std.proofs.lemmas.Bool.{not-true, not-false}
-use Rattle.std.proofs.lemmas.Bool.Decides.{Decides-eqb}
-use Rattle.std.proofs.lemmas.Slice.Eq.{slice_eq-Decides}
+use mathlib.Core.Bool.{Bool, true, false, true≢false}
 use mathlib.Core.List.{List}
 use native.Mathlib.Omega.{arith}
 use lib.ListN.{length, take}
@@ -28,16 +22,13 @@ use Rattle.pack.specs.Inner.{observed, Wrote, BlocksAsk, CutIs}
 
 -- ---- whether two lists are the same
 
--- What `!=` says of two lists of numbers.
-module _ (a b : List ℕ) (r : Bool) (e : r ≡ not (pointwise eqb a b)) where
-  decided : Decides (pointwise eqb a b) (a ≡ b)
-  decided = slice_eq-Decides Decides-eqb a b (pointwise eqb a b) refl
+-- What the test says of two lists of numbers.
+module _ (a b : List ℕ) (r : Bool) (e : r ≡ same a b) where
+  pub not_same : r ≡ false → a ≡ b → ⊥
+  not_same f s = true≢false (sym (same_refl b) ∙ ap (λ l. same l b) (sym s) ∙ sym e ∙ f)
 
-  pub not_same : r ≡ true → a ≡ b → ⊥
-  not_same t s = true≢false (sym (decided.1 s) ∙ not-true (pointwise eqb a b) (sym e ∙ t))
-
-  pub are_same : r ≡ false → a ≡ b
-  are_same f = decided.0 (not-false (pointwise eqb a b) (sym e ∙ f))
+  pub are_same : r ≡ true → a ≡ b
+  are_same t = same_is a b (sym e ∙ t)
 
 -- ---- the promises
 

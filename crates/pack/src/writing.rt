@@ -1,5 +1,6 @@
 // The packed report written by its cuts.
 ghost use Rattle.std.specs.Prelude.{◌≡◌, ◌≤◌, length};
+ghost use Rattle.text.specs.Part.{same};
 ghost use Rattle.pack.specs.Promise.{written_paper, WritePromised};
 ghost use Rattle.pack.specs.Inner.{RoomAsks, CutIs};
 
@@ -37,11 +38,18 @@ fn write_planned(
     requires { CutIs report.now rows.now found.now plan }
     ensures { WritePromised report.now cuts.now output.old output.new (written_paper result) }
 {
-    if cuts != &found[..plan.blocks] {
+    if !are_found(cuts, &found[..plan.blocks]) {
         return Err(Refusal::of_request(Kind::CutsDiffer));
     }
     if output.len() < plan.bytes as usize {
         return Err(Refusal::of_request(Kind::OutputTooShort));
     }
     Ok(write_blocks(report, rows, cuts, output))
+}
+
+// Whether the cuts handed in are those that were found, every number of them.
+fn are_found(cuts: &[u16], found: &[u16]) -> bool
+    ensures { result ≡ same cuts.now found.now }
+{
+    cuts == found
 }

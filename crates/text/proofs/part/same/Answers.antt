@@ -1,6 +1,8 @@
 -- `text::part::same` meets its contract.
+use Rattle.std.proofs.Common.{rules}
+use lib.Seq.{take-length}
 use Rattle.text.proofs.Chains.{same_is_pointwise}
 use Rattle.text.proofs.part.same.Goals as goal
 
 pub returns : goal.returns
-returns c = rw (same_is_pointwise, c.eq.ensures)
+returns c = search (rules, same_is_pointwise, take-length)
