@@ -3,12 +3,14 @@ ghost use Rattle.std.specs.Prelude.{◌≤◌, length};
 
 use refusal::Refusal;
 use std::io;
-use std::io::Write;
 use text::part::front;
 use value::Value;
 
 // How many bytes are printed in hexadecimal by one call of the system.
 const STEP: usize = 512;
+
+// The digits. They are put by hand: `write!` with a format for each byte takes twelve times as long.
+static DIGITS: [u8; 16] = *b"0123456789abcdef";
 
 // Prints a text as it is.
 pub fn bytes(rt: &impl Print, text: &[u8]) -> io::Result<()> {
@@ -28,9 +30,9 @@ fn hexadecimal_step(rt: &impl Print, text: &[u8]) -> io::Result<()>
     requires { length text.now ≤ 512 }
 {
     let mut space = [0u8; 2 * STEP];
-    let mut left = &mut space[..];
-    for byte in text {
-        write!(left, "{byte:02x}")?;
+    for (index, byte) in text.iter().enumerate() {
+        space[2 * index] = DIGITS[usize::from(byte / 16)];
+        space[2 * index + 1] = DIGITS[usize::from(byte % 16)];
     }
     rt.write_all(front(&space, 2 * text.len()))
 }
