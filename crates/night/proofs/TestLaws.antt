@@ -6,7 +6,7 @@ use mathlib.Core.List.{List}
 use native.Mathlib.Omega.{arith}
 use lib.Dec.{eqb, leb}
 use lib.ListN.{get_or, take, drop}
-use borrow.Author.Tests.{ne_eqb}
+use borrow.Author.Tests.{eq-eqb, ne_eqb}
 use lib.Seq.{take-take}
 use Rattle.std.specs.Prelude.{Some, None}
 use Rattle.text.specs.Numbered.{numbered}
@@ -40,6 +40,11 @@ module _ (s : List ℕ) (byte : (k : ℕ) → get_or s k 0 < 256) where
       last_first true false false = refl
       last_first false b true = refl
       last_first false b false = refl
+
+  -- Of a whole record with the number, the rest of the test is all of it.
+  pub whole_is : (n : ℕ) → is_whole s ≡ true → (numbers_of s).number ≡ n
+      → is_within_numbers (numbers_of s) (unpadded (take 4 (drop 4 s))) ≡ is_record n s
+  whole_is n w e = rw (w, eq-eqb (numbers_of s).number n e) at (test_is n)
 
 -- What a right record tells is what code reads.
 pub told_numbers : (n : ℕ) (s : List ℕ) → is_record n s ≡ true → told (fields_of s) ≡ numbers_of s

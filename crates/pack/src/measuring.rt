@@ -4,10 +4,9 @@ ghost use Rattle.pack.specs.Promise.{measured_paper, MeasurePromised};
 ghost use Rattle.pack.specs.Inner.{RoomAsks, Given};
 
 use crate::Measured;
-use crate::plan::plan;
+use crate::plan::{blank_rows, plan};
 use cuts::Plan;
 use refusal::Refusal;
-use report::index::BLANK;
 
 // Measures a report of no more than so many rows. It makes an index of them, with one row more, which the reader uses itself.
 #[inline(never)]
@@ -18,7 +17,7 @@ pub(crate) fn measure_rows<const ROWS: usize, const NOTED: usize>(
     requires { RoomAsks report.now ROWS NOTED }
     ensures { MeasurePromised report.now cuts.old cuts.new (measured_paper result) }
 {
-    let mut rows = [BLANK; NOTED];
+    let mut rows = blank_rows::<NOTED>();
     let mut found = [0u16; ROWS];
     let plan = plan::<ROWS>(report, &mut rows, &mut found)?;
     Ok(give_cuts(&found, plan, cuts))

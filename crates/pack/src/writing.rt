@@ -5,10 +5,10 @@ ghost use Rattle.pack.specs.Promise.{written_paper, WritePromised};
 ghost use Rattle.pack.specs.Inner.{RoomAsks, CutIs};
 
 use crate::block::write_blocks;
-use crate::plan::plan;
+use crate::plan::{blank_rows, plan};
 use cuts::Plan;
 use refusal::{Kind, Refusal};
-use report::index::{BLANK, Row};
+use report::index::Row;
 
 // Writes a report of no more than so many rows by cuts. It makes an index of them, with one row more, which the reader uses itself.
 #[inline(never)]
@@ -20,7 +20,7 @@ pub(crate) fn write_rows<const ROWS: usize, const NOTED: usize>(
     requires { RoomAsks report.now ROWS NOTED }
     ensures { WritePromised report.now cuts.now output.old output.new (written_paper result) }
 {
-    let mut rows = [BLANK; NOTED];
+    let mut rows = blank_rows::<NOTED>();
     let mut found = [0u16; ROWS];
     let plan = plan::<ROWS>(report, &mut rows, &mut found)?;
     write_planned(report, cuts, &rows, &found, plan, output)

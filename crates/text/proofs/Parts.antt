@@ -42,6 +42,12 @@ starts_is [] s h e = e
 starts_is (q ∷ p) [] h e = absurd (not-suc-le-zero h)
 starts_is (q ∷ p) (b ∷ s) h e = e ∙ rw (starts_is p s (le_of_suc-le-suc h) refl)
 
+-- What is paired with a shape are as many bytes as it has.
+pub zip_front : (p s : List ℕ) → zip p (take (length p) s) ≡ zip p s
+zip_front [] s = refl
+zip_front (q ∷ p) [] = refl
+zip_front (q ∷ p) (b ∷ s) = rw (zip_front p s)
+
 -- A text shorter than the shape does not start in it.
 pub starts_short : (p s : List ℕ) → length s < length p → starts p s ≡ false
 unfolding starts
