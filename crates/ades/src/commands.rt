@@ -1,4 +1,6 @@
 // The commands: one table, from which they are found, their usage is told and the help is printed.
+ghost use Rattle.std.specs.Prelude.{◌≡◌, IfSome};
+
 use inspect::table::{Named, first_named};
 use std::{fmt, io};
 
@@ -220,7 +222,9 @@ impl Named for Usage {
 }
 
 // How the command of a name is used, if there is one.
-pub(crate) fn find(name: &[u8]) -> Option<&'static Usage> {
+pub(crate) fn find(name: &[u8]) -> Option<&'static Usage>
+    ensures { IfSome result (λ usage. usage.now.name.now ≡ name.now) }
+{
     first_named(&COMMANDS, name)
 }
 

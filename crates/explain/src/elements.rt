@@ -1,4 +1,7 @@
 // The elements in words, by their numbers.
+ghost use Rattle.std.specs.Prelude.{◌≡◌, IfSome};
+ghost use Rattle.element.specs.Table.{name_of};
+
 use element::ELEMENTS;
 use element::name::put_whole;
 use element::table::LONGEST;
@@ -403,10 +406,17 @@ impl Named for Words {
     }
 }
 
-// What is said of an element, by its number: the first that has its name; nothing where none has it.
+// What is said of an element, by its number; nothing where there is none.
 fn words_of(element: usize) -> Option<&'static Words> {
+    words_at(element.checked_sub(1)?)
+}
+
+// What is said of the element of an index, found by its name; nothing where there is none.
+fn words_at(index: usize) -> Option<&'static Words>
+    ensures { IfSome result (λ words. words.now.name.now ≡ name_of index) }
+{
     let mut name = [0u8; LONGEST];
-    let length = put_whole(element.checked_sub(1)?, &mut name);
+    let length = put_whole(index, &mut name);
     first_named(&WORDS, front(&name, length))
 }
 

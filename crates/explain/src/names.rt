@@ -1,8 +1,12 @@
 // Names that are no element's of this box: what may have been meant.
+ghost use Rattle.std.specs.Prelude.{◌≡◌};
+ghost use Rattle.std.specs.List.{list_any};
+ghost use Rattle.text.specs.Part.{same};
+
 use crate::elements;
-use inspect::table::first_named;
 use std::io;
 use suggestion::suggested;
+use text::part::same;
 use words::print;
 
 // The names of the elements that ADES has and this box does not take.
@@ -67,7 +71,7 @@ static OUTSIDE: [&str; 56] = [
 
 // Prints what a name that is no element's may stand for: an ADES element outside this box's scope, or a slip; nothing where it is neither.
 pub fn print_hint(rt: &impl Print, name: &[u8]) -> io::Result<()> {
-    if is_outside(name) {
+    if is_one_of(name, &OUTSIDE) {
         print::bytes(rt, name)?;
         println!(rt; " is an ADES element outside this box's scope.")?;
     } else if let Some(element) = suggested(name) {
@@ -78,7 +82,9 @@ pub fn print_hint(rt: &impl Print, name: &[u8]) -> io::Result<()> {
     Ok(())
 }
 
-// Whether a name is that of an element that ADES has and this box does not take.
-fn is_outside(name: &[u8]) -> bool {
-    first_named(&OUTSIDE, name).is_some()
+// Whether a name is one of a list.
+fn is_one_of(name: &[u8], names: &[&'static str]) -> bool
+    ensures { result ≡ list_any (λ one. same one.now name.now) names.now }
+{
+    names.iter().any(|one| same(one.as_bytes(), name))
 }

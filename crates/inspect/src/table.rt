@@ -1,5 +1,5 @@
 // Tables: entries in a list, found by their names; and a table written as a text: rows between LFs, in a row entries between bars.
-ghost use Rattle.std.specs.Prelude.{ℕ, List, ◌≡◌, find};
+ghost use Rattle.std.specs.Prelude.{ℕ, List, ◌≡◌, find, IfSome};
 ghost use Rattle.std.specs.Option.{option_copied};
 ghost use Rattle.text.specs.Part.{same};
 ghost use Rattle.inspect.specs.Tables.{entry_of, found_row};
@@ -37,16 +37,16 @@ pub trait Named {
         ensures { result.now ≡ name_of self.now };
 }
 
-impl Named for &'static str {
-    ghost name_of = { λ text. text.now };
-
-    fn name(&self) -> &[u8] {
-        self.as_bytes()
-    }
-}
-
 // The first entry of a table that has a name; none where no entry has it.
 pub fn first_named<'a, T: Named>(table: &'a [T], name: &[u8]) -> Option<&'a T>
+    ensures first { option_copied result ≡ find (λ entry. same (T.name_of entry) name.now) table.now }
+    ensures has { IfSome result (λ entry. T.name_of entry.now ≡ name.now) }
+{
+    found(table, name)
+}
+
+// The same; that what is found has the name follows from it.
+fn found<'a, T: Named>(table: &'a [T], name: &[u8]) -> Option<&'a T>
     ensures { option_copied result ≡ find (λ entry. same (T.name_of entry) name.now) table.now }
 {
     table.iter().find(|entry| same(entry.name(), name))

@@ -1,11 +1,11 @@
 -- `night::list::first_bad` meets its contract.
-use lib.Seq.{take-length}
+use lib.Seq.{take_all}
 use Rattle.std.proofs.Common.{rules, sym, ◌∙◌}
 use Rattle.night.proofs.ListLaws.{look_start, look_end, look_on, look_bad, rest_is}
 use Rattle.night.proofs.list.first_bad.Goals as goal
 
 pub loop-index-init : goal.loop-index-init
-loop-index-init c = (search rules, tt, search rules, search (rules, take-length), look_start _ _ (search rules))
+loop-index-init c = (search rules, tt, search rules, search (rules, take_all), look_start _ _ (search rules))
 
 pub returns-then-not-is_record : goal.returns-then-not-is_record
 returns-then-not-is_record c =
